@@ -1,0 +1,4 @@
+pub mod ByteLaws
+pub mod OrderLaws
+pub mod ClauseLaws
+pub mod Deciding
