@@ -19,7 +19,7 @@ pub fn is_true(assignment: &[u8], literal: Literal) -> bool
 // Whether one of the clause's literals is true.
 pub fn is_met(assignment: &[u8], clause: &[Literal]) -> bool
     ensures value { λ r. ⌜ r ≡ met (now (assignment .entry)) (now (clause .entry)) ⌝ }
-    ensures law { λ _. ⌜ StaysMet ⌝ }
+    ensures stays { λ _. ⌜ StaysMet ⌝ }
 {
     for literal in clause {
         if is_true(assignment, *literal) {

@@ -6,7 +6,7 @@ ghost use Rattle.assignments.specs.Laws.{PrecisionOrder, StrictTotalOrder};
 // Whether `whole` has every known value of `part`.
 pub fn is_part(part: &[u8], whole: &[u8]) -> bool
     ensures decides { λ r. ⌜ Decides r (Part (now (part .entry)) (now (whole .entry))) ⌝ }
-    ensures law { λ _. ⌜ PrecisionOrder ⌝ }
+    ensures ordered { λ _. ⌜ PrecisionOrder ⌝ }
 {
     for i in 0..part.len() {
         if part[i] > 1 {
@@ -25,7 +25,7 @@ pub fn is_part(part: &[u8], whole: &[u8]) -> bool
 // Whether `left` comes before `right`: at the first atom where they differ, `left` has 0 and `right` has 1.
 pub fn precedes(left: &[u8], right: &[u8]) -> bool
     ensures decides { λ r. ⌜ Decides r (Less (now (left .entry)) (now (right .entry))) ⌝ }
-    ensures law { λ _. ⌜ StrictTotalOrder ⌝ }
+    ensures total { λ _. ⌜ StrictTotalOrder ⌝ }
 {
     for i in 0..left.len() {
         if i >= right.len() {

@@ -12,7 +12,7 @@ returns-then-is-true c =
     let f : SFits w16 (getD (c .args .clause .now) (c .loop-literal .literal-index) (pos 0)) = search needs in
     record {
       value = met-found (c .args .assignment .now) (c .args .clause .now) (c .loop-literal .literal-index) (c .loop-literal .inv) (c .loop-literal-test .taken) (simp toZ-ofZ at (c .if-is-true .ensures tt));
-      law = stays-met;
+      stays = stays-met;
     }
 
 pub loop-literal-again : need.loop-literal-again
@@ -23,5 +23,5 @@ loop-literal-again c =
 pub returns : need.returns
 returns c = record {
     value = met-ended (c .args .assignment .now) (c .args .clause .now) (c .loop-literal .literal-index) (c .loop-literal .inv) (c .loop-literal-test .left);
-    law = stays-met;
+    stays = stays-met;
   }

@@ -30,7 +30,7 @@ returns-then-i-whole c =
         let e = part .keeps (c .loop-i .i) (omega arith) in
         let w = at-within (c .args .whole .now) (c .loop-i .i) (omega arith) in
         omega arith);
-      law = precision-order;
+      ordered = precision-order;
     }
 
 pub returns-then-whole-i : need.returns-then-whole-i
@@ -41,7 +41,7 @@ returns-then-whole-i c =
       decides = decided-no (λ part.
         let e = part .keeps (c .loop-i .i) (omega arith) in
         c .if-whole-i .taken (omega arith));
-      law = precision-order;
+      ordered = precision-order;
     }
 
 pub returns : need.returns
@@ -49,5 +49,5 @@ returns c = record {
     decides = decided-yes (record { keeps = λ i k.
       let w = at-within (c .args .part .now) i k in
       c .loop-i .inv i (omega arith) k });
-    law = precision-order;
+    ordered = precision-order;
   }

@@ -24,7 +24,7 @@ loop-i-again c =
 pub returns-then-i-right : need.returns-then-i-right
 returns-then-i-right c = record {
     decides = decided-no (less-never (c .args .left .now) (c .args .right .now) (length (c .args .right .now)) (inr refl) (λ k h. c .loop-i .inv k (omega arith)));
-    law = strict-total-order;
+    total = strict-total-order;
   }
 
 pub returns-in-loop-i : need.returns-in-loop-i
@@ -40,11 +40,11 @@ returns-in-loop-i c =
           then-l-eq0 w ↦ decides-at _ _ (w .result-is) (decides-like _ (λ e. (l ∙ w .if-l-eq0 .taken, r ∙ e)) (λ v. sym r ∙ v .1) (decides-eqb _ _))
         | else-l-eq0 w ↦ decides-at _ _ (w .result-is) (decides-like _ (λ e. absurd (w .if-l-eq0 .left e)) (λ v. sym l ∙ v .0) (decides-eqb _ _))
         ]);
-      law = strict-total-order;
+      total = strict-total-order;
     }
 
 pub returns : need.returns
 returns c = record {
     decides = decided-no (less-never (c .args .left .now) (c .args .right .now) (length (c .args .left .now)) (inl refl) (λ k h. c .loop-i .inv k (omega arith)));
-    law = strict-total-order;
+    total = strict-total-order;
   }

@@ -1,0 +1,5 @@
+pub mod Limits
+pub mod Stretches
+pub mod Books
+pub mod Adding
+pub mod Evaluation
