@@ -1,7 +1,9 @@
 // The two orders on assignments: by what is known, and of complete ones by their first difference.
+ghost use mathlib.Core.Path.{_≡_};
 ghost use Rattle.std.specs.Orderings.{Decides};
 ghost use Rattle.assignments.specs.Assignments.{Part, Less};
 ghost use Rattle.assignments.specs.Laws.{PrecisionOrder, StrictTotalOrder};
+use crate::values::byte_at;
 
 // Whether `whole` has every known value of `part`.
 pub fn is_part(part: &[u8], whole: &[u8]) -> bool
@@ -9,13 +11,11 @@ pub fn is_part(part: &[u8], whole: &[u8]) -> bool
     ensures ordered { λ _. ⌜ PrecisionOrder ⌝ }
 {
     for i in 0..part.len() {
-        if part[i] > 1 {
+        let value = byte_at(part, i);
+        if value > 1 {
             continue;
         }
-        if i >= whole.len() {
-            return false;
-        }
-        if whole[i] != part[i] {
+        if byte_at(whole, i) != value {
             return false;
         }
     }
@@ -28,15 +28,16 @@ pub fn precedes(left: &[u8], right: &[u8]) -> bool
     ensures total { λ _. ⌜ StrictTotalOrder ⌝ }
 {
     for i in 0..left.len() {
-        if i >= right.len() {
-            return false;
+        let (l, r) = (byte_at(left, i), byte_at(right, i));
+        if l != r {
+            return is_zero_one(l, r);
         }
-        let l = left[i].min(2);
-        let r = right[i].min(2);
-        if l == r {
-            continue;
-        }
-        return l == 0 && r == 1;
     }
     false
+}
+
+fn is_zero_one(l: u8, r: u8) -> bool
+    ensures { λ b. ⌜ Decides b ((l ≡ 0) × (r ≡ 1)) ⌝ }
+{
+    l == 0 && r == 1
 }

@@ -2,7 +2,7 @@
 ghost use mathlib.Core.Path.{_≡_};
 ghost use Prim.Native.Nat.{min};
 ghost use Rattle.std.specs.Orderings.{Decides};
-ghost use Rattle.assignments.specs.Assignments.{atom as «atom-at», Complete};
+ghost use Rattle.assignments.specs.Assignments.{at, atom as «atom-at», Complete};
 ghost use Rattle.assignments.specs.Values.{byte-of};
 use crate::AtomNumber;
 
@@ -23,15 +23,24 @@ pub fn read_value(byte: u8) -> Value
     }
 }
 
+// The value at a place as a byte: 0, 1, or 2 for unknown. Atom k stands at place k - 1.
+pub fn byte_at(assignment: &[u8], place: usize) -> u8
+    ensures { λ r. ⌜ r ≡ at (now (assignment .entry)) place ⌝ }
+{
+    if place >= assignment.len() {
+        return 2;
+    }
+    assignment[place].min(2)
+}
+
 // Atom 0 stands for no atom, and is unknown.
 pub fn value_at(assignment: &[u8], atom: AtomNumber) -> Value
     ensures { λ r. ⌜ byte-of r ≡ «atom-at» (now (assignment .entry)) atom ⌝ }
 {
-    let number = atom as usize;
-    if number == 0 || number > assignment.len() {
+    if atom == 0 {
         return Value::Unknown;
     }
-    read_value(assignment[number - 1])
+    read_value(byte_at(assignment, atom as usize - 1))
 }
 
 pub fn is_complete(assignment: &[u8], atoms: usize) -> bool

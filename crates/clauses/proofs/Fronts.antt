@@ -10,8 +10,10 @@ use lib.ListN.{length, getD, take, drop, length-append, length-map}
 use lib.Seq.{take-all}
 use Rattle.std.proofs.shelf.Lists.{map-append, take-at, drop-at}
 use Rattle.std.specs.declared.option.Option.the-variants.{Some, None}
-use Rattle.std.proofs.shelf.Tests.{and-from, and-parts, and-left, eq-eqb, eqb-true, le-leb, leb-true, lt-leb, lt-ltb, le-ltb, cond-true, cond-false}
+use Rattle.std.proofs.shelf.Tests.{true≢false, and-from, and-parts, and-left, eq-eqb, eqb-true, le-leb, leb-true, lt-leb, lt-ltb, ltb-true, cond-true}
 use Rattle.std.proofs.shelf.Ways.{tells}
+use Rattle.std.specs.Options.{isSome}
+use Rattle.refusals.specs.declared.Refusal.{Refusal}
 use Rattle.refusals.specs.declared.Refusal.the-variants.{LiteralOutOfRange, ClauseTableFull, LiteralTableFull}
 use Rattle.tables.specs.Items.{entries}
 use Rattle.tables.proofs.Fronts.{entries-fit}
@@ -22,7 +24,7 @@ use Rattle.clauses.specs.Stretches.{part, parts, laid}
 use Rattle.clauses.specs.Books.{clauses-of}
 use Rattle.clauses.specs.Adding.{literal-count, refusal-of-adding, is-front}
 use Rattle.clauses.specs.Limits.{clause-limit, literal-limit}
-use Rattle.clauses.proofs.Laying.{no-stretch, laid-lens, parts-count, parts-more, lens, lies-within, starts-at, front-count}
+use Rattle.clauses.proofs.Laying.{no-stretch, laid-lens, laid-push, parts-count, parts-more, lens, lies-within, starts-at, front-count}
 
 pub clause-count : (b : ClauseBook) → length (clauses-of b) ≡ length (entries (b .stretches))
 clause-count b = length-map (entries (b .stretches)) (part (entries (b .literals)))
@@ -62,16 +64,17 @@ within b ls ss e f k h =
     let whole : laid 0 ss (length ls) ≡ true = rw (e, f) (b .whole) in
     (lies-within 0 ss (length ls) k whole h, omega (arith, ap length e))
 
--- which refusal a clause meets
-module _ (n : ℕ) (cs : List (List ℤ)) (c : List ℤ) (ranged : all-in-range n c ≡ true) where
-  pub adding-full : clause-limit ≤ length cs → Some ClauseTableFull ≡ refusal-of-adding n cs c
-  adding-full h = sym (cond-true _ _ _ ranged ∙ cond-false _ _ _ (le-ltb _ _ h))
+-- a clause that meets no refusal
+no-refusal : (x y z : Bool) (a b c : Refusal) → cond x (cond y (cond z None (Some a)) (Some b)) (Some c) ≡ None → (x ≡ true) × (y ≡ true) × (z ≡ true)
+no-refusal true true true a b c e = (refl, refl, refl)
+no-refusal true true false a b c e = absurd (true≢false (ap isSome e))
+no-refusal true false z a b c e = absurd (true≢false (ap isSome e))
+no-refusal false y z a b c e = absurd (true≢false (ap isSome e))
 
-  pub adding-many : length cs < clause-limit → literal-limit < literal-count cs + length c → Some LiteralTableFull ≡ refusal-of-adding n cs c
-  adding-many h m = sym (cond-true _ _ _ ranged ∙ cond-true _ _ _ (lt-ltb _ _ h) ∙ cond-false _ _ _ (lt-leb _ _ m))
-
-  pub adding-fits : length cs < clause-limit → literal-count cs + length c ≤ literal-limit → None ≡ refusal-of-adding n cs c
-  adding-fits h m = sym (cond-true _ _ _ ranged ∙ cond-true _ _ _ (lt-ltb _ _ h) ∙ cond-true _ _ _ (le-leb _ _ m))
+pub accepted : (n : ℕ) (cs : List (List ℤ)) (c : List ℤ) → refusal-of-adding n cs c ≡ None → (all-in-range n c ≡ true) × (length cs < clause-limit) × (literal-count cs + length c ≤ literal-limit)
+accepted n cs c e =
+    let r = no-refusal (all-in-range n c) (ltb (length cs) clause-limit) (leb (literal-count cs + length c) literal-limit) LiteralTableFull ClauseTableFull LiteralOutOfRange e in
+    (r .0, ltb-true _ _ (r .1), leb-true _ _ (r .2))
 
 -- the counts of a front
 module _ (ls : List ℤ) (ss : List Stretch) (whole : laid 0 ss (length ls) ≡ true) (k m : ℕ) where
@@ -100,3 +103,30 @@ module _ (ls : List ℤ) (ss : List Stretch) (whole : laid 0 ss (length ls) ≡ 
 
   pub front-lens : true ≡ is-front (parts ls ss) k m → m ≡ lens (take k ss)
   front-lens e = eqb-true _ _ (and-parts (leb k (length (parts ls ss))) (eqb m (literal-count (take k (parts ls ss)))) (sym e) .1) ∙ count
+
+-- both tables after a clause that is accepted, as the calls on them tell it; x is where its stretch starts
+module _ (b : ClauseBook) (c : List ℤ) (free : refusal-of-adding (b .atoms) (clauses-of b) c ≡ None) where
+  abbrev pub new-stretch : Stretch
+  new-stretch = record { start = length (entries (b .literals)); len = length c }
+
+  pub literals-grow : (r : Bool) (ls : List ℤ) → r ≡ leb (length (entries (b .literals)) + length c) literal-limit → ls ≡ cond r (entries (b .literals) ++ c) (entries (b .literals)) → ls ≡ entries (b .literals) ++ c
+  literals-grow r ls t e =
+      let n = all-literals b in
+      let f = accepted (b .atoms) (clauses-of b) c free .2 in
+      e ∙ cond-true r _ _ (t ∙ le-leb _ _ (omega arith))
+
+  pub stretches-grow : (r : Bool) (x : ℕ) (ss : List Stretch) → r ≡ ltb (length (entries (b .stretches))) clause-limit → x ≡ length (entries (b .literals)) → ss ≡ cond r (entries (b .stretches) ++ record { start = x; len = length c } ∷ []) (entries (b .stretches)) → ss ≡ entries (b .stretches) ++ new-stretch ∷ []
+  stretches-grow r x ss t s e =
+      let n = clause-count b in
+      let f = accepted (b .atoms) (clauses-of b) c free .1 in
+      e ∙ cond-true r _ _ (t ∙ lt-ltb _ _ (omega arith)) ∙ ap (λ y. entries (b .stretches) ++ record { start = y; len = length c } ∷ []) s
+
+  module _ (ls : List ℤ) (ss : List Stretch) (e : ls ≡ entries (b .literals) ++ c) (f : ss ≡ entries (b .stretches) ++ new-stretch ∷ []) where
+    pub still-ranged : all-in-range (b .atoms) ls ≡ true
+    still-ranged = rw e (ranged-append (b .atoms) (entries (b .literals)) c (b .ranged) (accepted (b .atoms) (clauses-of b) c free .0))
+
+    pub still-whole : laid 0 ss (length ls) ≡ true
+    still-whole = rw f (laid-push 0 (entries (b .stretches)) (length (entries (b .literals))) (length ls) new-stretch (b .whole) refl (ap length e ∙ length-append (entries (b .literals)) c))
+
+    pub one-more : parts ls ss ≡ clauses-of b ++ c ∷ []
+    one-more = ap (λ l. parts l ss) e ∙ ap (parts (entries (b .literals) ++ c)) f ∙ parts-push (entries (b .literals)) (entries (b .stretches)) c (b .whole)

@@ -27,8 +27,8 @@ abbrev pub refusal-of-adding : ℕ → List (List ℤ) → List ℤ → Option R
 refusal-of-adding n cs c =
     cond (all-in-range n c)
     (cond (ltb (length cs) clause-limit)
-      (cond (leb (literal-count cs + length c) literal-limit) None (Some LiteralTableFull))
-      (Some ClauseTableFull))
+    (cond (leb (literal-count cs + length c) literal-limit) None (Some LiteralTableFull))
+    (Some ClauseTableFull))
     (Some LiteralOutOfRange)
 
 -- the first k of the clauses cs are there, and have m literals together

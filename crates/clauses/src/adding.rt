@@ -9,6 +9,7 @@ ghost use Rattle.std.specs.Vec.{made};
 ghost use Rattle.clauses.specs.Books.{atoms-of, clauses-of};
 ghost use Rattle.clauses.specs.Adding.{refusal-of-fresh, refusal-of-adding, literal-count, is-front};
 use crate::CLAUSE_LIMIT;
+use crate::LITERAL_LIMIT;
 use crate::book::ClauseBook;
 use crate::stretch::Counts;
 use crate::stretch::Stretch;
@@ -29,7 +30,11 @@ impl ClauseBook {
             return Err(Refusal::CountOutOfRange);
         }
         let stretches = Table::new(Stretch { start: 0, len: 0 });
-        Ok(ClauseBook { atoms, literals: Table::new(0), stretches })
+        Ok(ClauseBook {
+            atoms,
+            literals: Table::new(0),
+            stretches,
+        })
     }
 
     // One clause more at the end. A refusal changes nothing.
@@ -38,18 +43,34 @@ impl ClauseBook {
         ensures clauses { λ r. ⌜ clauses-of (now (self .exit)) ≡ cond (isOk r) (clauses-of (now (self .entry)) ++ now (clause .entry) ∷ []) (clauses-of (now (self .entry))) ⌝ }
         ensures atoms { λ _. ⌜ atoms-of (now (self .exit)) ≡ atoms-of (now (self .entry)) ⌝ }
     {
-        if !are_in_range(clause, self.atoms) {
-            return Err(Refusal::LiteralOutOfRange);
+        match self.refusal_of_adding(clause) {
+            None => {
+                let start = self.literals.as_slice().len();
+                let len = clause.len();
+                let _ = self.literals.extend(clause);
+                let _ = self.stretches.push(Stretch { start, len });
+                Ok(())
+            }
+            Some(refusal) => Err(refusal),
         }
-        if self.stretches.as_slice().len() >= CLAUSE_LIMIT {
-            return Err(Refusal::ClauseTableFull);
+    }
+
+    // The earliest refusal that adding the clause meets.
+    fn refusal_of_adding(&self, clause: &[Literal]) -> Option<Refusal>
+        ensures { λ r. ⌜ r ≡ refusal-of-adding (atoms-of (now (self .entry))) (clauses-of (now (self .entry))) (now (clause .entry)) ⌝ }
+    {
+        let ranged = are_in_range(clause, self.atoms);
+        let held = self.counts();
+        if !ranged {
+            return Some(Refusal::LiteralOutOfRange);
         }
-        let start = self.literals.as_slice().len();
-        if !self.literals.extend(clause) {
-            return Err(Refusal::LiteralTableFull);
+        if held.clauses >= CLAUSE_LIMIT {
+            return Some(Refusal::ClauseTableFull);
         }
-        let _ = self.stretches.push(Stretch { start, len: clause.len() });
-        Ok(())
+        if held.literals.saturating_add(clause.len()) > LITERAL_LIMIT {
+            return Some(Refusal::LiteralTableFull);
+        }
+        None
     }
 
     pub fn atoms(&self) -> usize
@@ -62,7 +83,10 @@ impl ClauseBook {
         ensures clauses { λ r. ⌜ r .clauses ≡ length (clauses-of (now (self .entry))) ⌝ }
         ensures literals { λ r. ⌜ r .literals ≡ literal-count (clauses-of (now (self .entry))) ⌝ }
     {
-        Counts { clauses: self.stretches.as_slice().len(), literals: self.literals.as_slice().len() }
+        Counts {
+            clauses: self.stretches.as_slice().len(),
+            literals: self.literals.as_slice().len(),
+        }
     }
 
     // Drops the clauses added since the book held so many clauses and literals.

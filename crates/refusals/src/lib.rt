@@ -88,6 +88,11 @@ impl Fault {
     pub fn outside_text(refusal: Refusal) -> Fault
         ensures { λ r. ⌜ r ≡ outside refusal ⌝ }
     {
-        Fault { refusal, cause: None, line: 0, body: '-' }
+        Fault {
+            refusal,
+            cause: None,
+            line: 0,
+            body: '-',
+        }
     }
 }

@@ -13,7 +13,10 @@ impl<T: Copy, const N: usize> Table<T, N> {
     pub fn new(fill: T) -> Self
         ensures { λ r. ⌜ entries r ≡ [] ⌝ }
     {
-        Table { items: [fill; N], len: 0 }
+        Table {
+            items: [fill; N],
+            len: 0,
+        }
     }
 
     // One item more, or false and no change where the table is full.

@@ -22,6 +22,6 @@ loop-literal-again c =
 
 pub returns : need.returns
 returns c = record {
-    value = met-ended (c .args .assignment .now) (c .args .clause .now) (c .loop-literal .literal-index) (c .loop-literal .inv) (c .loop-literal-test .left);
-    stays = stays-met;
-  }
+  value = met-ended (c .args .assignment .now) (c .args .clause .now) (c .loop-literal .literal-index) (c .loop-literal .inv) (c .loop-literal-test .left);
+  stays = stays-met;
+}

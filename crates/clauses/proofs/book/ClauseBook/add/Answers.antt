@@ -1,71 +1,22 @@
-use mathlib.Core.Path.{_≡_, refl, sym, ap, subst, _∙_}
-use mathlib.Core.Bool.{true, false}
-use mathlib.Core.List.{[], _∷_, _++_}
-use Prim.Native.Nat.{_<_, _≤_, _+_}
-use native.Mathlib.Omega.{arith}
-use borrow.Author.Needs.{needs}
-use lib.ListN.{length, length-append}
-use Rattle.std.proofs.shelf.Tests.{leb-true, leb-false}
-use Rattle.tables.specs.Items.{entries}
-use Rattle.assignments.specs.Literals.{all-in-range}
-use Rattle.clauses.specs.declared.stretch.Stretch.{Stretch}
-use Rattle.clauses.specs.Books.{clauses-of}
-use Rattle.clauses.specs.Stretches.{laid, parts}
-use Rattle.clauses.proofs.Laying.{laid-push}
-use Rattle.clauses.proofs.Fronts.{clause-count, all-literals, ranged-append, parts-push, adding-full, adding-many, adding-fits}
+use mathlib.Core.Path.{_≡_, refl, sym, ap}
+use lib.ListN.{length}
+use Rattle.clauses.proofs.Fronts.{literals-grow, stretches-grow, still-ranged, still-whole, one-more}
 use Rattle.clauses.proofs.book.ClauseBook.add.Needs as need
 
-pub returns-then-as-slice-ge-CLAUSE-LIMIT : need.returns-then-as-slice-ge-CLAUSE-LIMIT
-returns-then-as-slice-ge-CLAUSE-LIMIT c =
+pub ghost-self : need.ghost-self
+ghost-self c =
     let b = c .args .self .now in
-    let n = clause-count b in
-    record {
-      refused = adding-full (b .atoms) (clauses-of b) (c .args .clause .now) (sym (c .if-not-are-in-range .ensures tt)) (omega (arith, c .if-as-slice-ge-CLAUSE-LIMIT .taken, ap length (c .as-slice .ensures)));
-      clauses = refl;
-      atoms = refl;
-    }
+    let new = c .args .clause .now in
+    let free = sym (c .in-None .ensures tt) in
+    let ls = literals-grow b new free _ _ (c .extend .ensures .value) (c .extend .ensures .items) in
+    let ss = stretches-grow b new free _ _ _ (c .push .ensures .value) (ap length (c .as-slice-start .ensures)) (c .push .ensures .items) in
+    (b .few, (still-ranged b new free _ _ ls ss, (still-whole b new free _ _ ls ss, tt)))
 
-pub returns-then-not-extend : need.returns-then-not-extend
-returns-then-not-extend c =
+pub returns-in-None : need.returns-in-None
+returns-in-None c =
     let b = c .args .self .now in
-    let n = clause-count b in
-    let m = all-literals b in
-    let over = leb-false _ _ (sym (c .if-not-extend .ensures tt .value)) in
-    record {
-      refused = adding-many (b .atoms) (clauses-of b) (c .args .clause .now) (sym (c .if-not-are-in-range .ensures tt)) (omega (arith, c .if-as-slice-ge-CLAUSE-LIMIT .left, ap length (c .as-slice .ensures))) (omega arith);
-      clauses = ap (λ ls. parts ls (entries (b .stretches))) (c .if-not-extend .ensures tt .items);
-      atoms = refl;
-    }
-
-pub ghost-self-2 : need.ghost-self-2
-ghost-self-2 c =
-    let b = c .args .self .now in
-    let ls = entries (b .literals) in
-    let ss = entries (b .stretches) in
-    let more = c .args .clause .now in
-    let new : Stretch = record { start = length ls; len = length more } in
-    let lits : entries (c .extend .last .self) ≡ ls ++ more = c .if-not-extend .ensures tt .items in
-    let stretches : entries (c .push .last .self) ≡ ss ++ new ∷ [] = search needs in
-    (b .few,
-    (subst (λ l. all-in-range (b .atoms) l ≡ true) (sym lits) (ranged-append (b .atoms) ls more (b .ranged) (sym (c .if-not-are-in-range .ensures tt))),
-    (subst (λ l. laid 0 l (length (entries (c .extend .last .self))) ≡ true) (sym stretches)
-      (laid-push 0 ss (length ls) (length (entries (c .extend .last .self))) new (b .whole) refl (ap length lits ∙ length-append ls more)),
-    tt)))
-
-pub returns : need.returns
-returns c =
-    let b = c .args .self .now in
-    let ls = entries (b .literals) in
-    let ss = entries (b .stretches) in
-    let more = c .args .clause .now in
-    let new : Stretch = record { start = length ls; len = length more } in
-    let lits : entries (c .extend .last .self) ≡ ls ++ more = c .if-not-extend .ensures tt .items in
-    let stretches : entries (c .push .last .self) ≡ ss ++ new ∷ [] = search needs in
-    let n = clause-count b in
-    let m = all-literals b in
-    let fits = leb-true _ _ (sym (c .if-not-extend .ensures tt .value)) in
-    record {
-      refused = adding-fits (b .atoms) (clauses-of b) more (sym (c .if-not-are-in-range .ensures tt)) (omega (arith, c .if-as-slice-ge-CLAUSE-LIMIT .left, ap length (c .as-slice .ensures))) (omega arith);
-      clauses = ap (λ l. parts l (entries (c .push .last .self))) lits ∙ ap (parts (ls ++ more)) stretches ∙ parts-push ls ss more (b .whole);
-      atoms = refl;
-    }
+    let new = c .args .clause .now in
+    let free = sym (c .in-None .ensures tt) in
+    let ls = literals-grow b new free _ _ (c .extend .ensures .value) (c .extend .ensures .items) in
+    let ss = stretches-grow b new free _ _ _ (c .push .ensures .value) (ap length (c .as-slice-start .ensures)) (c .push .ensures .items) in
+    record { refused = c .in-None .ensures tt; clauses = one-more b new free _ _ ls ss; atoms = refl }

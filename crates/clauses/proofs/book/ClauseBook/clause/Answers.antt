@@ -38,8 +38,9 @@ returns c =
     let ls = c .as-slice-literals .result .now in
     let ss = c .as-slice-stretches .result .now in
     let n = clause-count b in
-    let s = getD ss (c .args .index) no-stretch in
-    (omega (arith, ap length (c .as-slice-stretches .ensures), c .if-index-stretches .left),
-     cut-is ls s ∙ sym (getD-map (part ls) ss (c .args .index) no-stretch [] (c .if-index-stretches .left))
-     ∙ ap (λ x. getD (parts x ss) (c .args .index) []) (c .as-slice-literals .ensures)
-     ∙ ap (λ x. getD (parts (entries (b .literals)) x) (c .args .index) []) (c .as-slice-stretches .ensures))
+    let s = getD ss (c .args .index) no-stretch in (
+      omega (arith, ap length (c .as-slice-stretches .ensures), c .if-index-stretches .left),
+      cut-is ls s ∙ sym (getD-map (part ls) ss (c .args .index) no-stretch [] (c .if-index-stretches .left))
+          ∙ ap (λ x. getD (parts x ss) (c .args .index) []) (c .as-slice-literals .ensures)
+          ∙ ap (λ x. getD (parts (entries (b .literals)) x) (c .args .index) []) (c .as-slice-stretches .ensures),
+    )

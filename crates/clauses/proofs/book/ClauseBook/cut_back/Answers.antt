@@ -18,12 +18,17 @@ ghost-self c =
     let m = c .args .to .literals in
     let lits : entries (c .truncate-2 .last .self) ≡ take m ls = c .truncate-2 .ensures in
     let stretches : entries (c .truncate .last .self) ≡ take k ss = c .truncate .ensures in
-    let e : m ≡ lens (take k ss) = front-lens ls ss (b .whole) k m (c .if-not-is-front .ensures tt) in
-    (b .few,
-    (subst (λ l. all-in-range (b .atoms) l ≡ true) (sym lits) (ranged-take (b .atoms) ls m (b .ranged)),
-    (subst (λ l. laid 0 l (length (entries (c .truncate-2 .last .self))) ≡ true) (sym stretches)
-      (subst (λ l. laid 0 (take k ss) (length l) ≡ true) (sym lits) (front-laid ss ls (b .whole) k m e)),
-    tt)))
+    let e : m ≡ lens (take k ss) = front-lens ls ss (b .whole) k m (c .if-not-is-front .ensures tt) in (
+      b .few,
+      (
+        subst (λ l. all-in-range (b .atoms) l ≡ true) (sym lits) (ranged-take (b .atoms) ls m (b .ranged)),
+        (
+          subst (λ l. laid 0 l (length (entries (c .truncate-2 .last .self))) ≡ true) (sym stretches)
+              (subst (λ l. laid 0 (take k ss) (length l) ≡ true) (sym lits) (front-laid ss ls (b .whole) k m e)),
+          tt,
+        ),
+      ),
+    )
 
 pub returns : need.returns
 returns c =

@@ -74,8 +74,8 @@ returns-in-clauses c =
     let ss = c .as-slice-stretches .result .now in
     let k = cut ls (getD ss (c .clauses .stretch-index) no-stretch) in
     let a = answer (c .args .self .now) p ls ss false (c .as-slice-literals .ensures) (c .as-slice-stretches .ensures)
-      (clause-unmet p ls ss (c .clauses .stretch-index) (c .clauses .inv) (c .clauses-test .taken)
-        (met-ended p k (c .loop-literal .literal-index) (c .loop-literal .inv) (c .loop-literal-test .left))) in
+    (clause-unmet p ls ss (c .clauses .stretch-index) (c .clauses .inv) (c .clauses-test .taken)
+    (met-ended p k (c .loop-literal .literal-index) (c .loop-literal .inv) (c .loop-literal-test .left))) in
     record { value = a .0; decides = a .1 }
 
 pub returns : need.returns
@@ -84,5 +84,5 @@ returns c =
     let ls = c .as-slice-literals .result .now in
     let ss = c .as-slice-stretches .result .now in
     let a = answer (c .args .self .now) p ls ss true (c .as-slice-literals .ensures) (c .as-slice-stretches .ensures)
-      (clauses-done p ls ss (c .clauses .stretch-index) (c .clauses .inv) (c .clauses-test .left)) in
+    (clauses-done p ls ss (c .clauses .stretch-index) (c .clauses .inv) (c .clauses-test .left)) in
     record { value = a .0; decides = a .1 }
