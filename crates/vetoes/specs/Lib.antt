@@ -1,0 +1,5 @@
+pub mod Meaning
+pub mod Verdicts
+pub mod Solutions
+pub mod Marks
+pub mod Counted
