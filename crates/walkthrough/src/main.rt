@@ -1,8 +1,17 @@
-// Takes one order from its clauses to the assignments that meet it, and prints each action.
+// Takes one order from its clauses to the assignments that may be burned, and prints each action.
+use assignments::AtomNumber;
 use assignments::Literal;
 use clauses::book::ClauseBook;
+use loads::kind::Milliamperes;
+use loads::kind::MilliamperesLoad;
+use loads::load::Load;
+use loads::load::LoadVeto;
+use loads::row::Row;
 use std::fmt;
 use std::io;
+use vetoes::lent::LentSlice;
+use vetoes::veto::Verdict;
+use vetoes::veto::Veto;
 
 // Atom 1 is the raw output, atom 2 the filter, atom 3 the motor brake.
 const ATOMS: usize = 3;
@@ -48,10 +57,10 @@ fn wish(rt: &LibcRuntime, book: &mut ClauseBook, clause: &[Literal]) -> io::Resu
 }
 
 // Tells each clause that the assignment fails, and answers whether it meets all.
-fn examine(rt: &LibcRuntime, book: &ClauseBook, assignment: &[u8]) -> io::Result<bool> {
+fn evaluate(rt: &LibcRuntime, book: &ClauseBook, assignment: &[u8]) -> io::Result<bool> {
     print!(rt, "{}", Digits(assignment))?;
     if book.is_met_by(assignment) {
-        println!(rt, " meets the order")?;
+        print!(rt, " meets every clause")?;
         return Ok(true);
     }
     for index in 0..book.counts().clauses {
@@ -63,14 +72,40 @@ fn examine(rt: &LibcRuntime, book: &ClauseBook, assignment: &[u8]) -> io::Result
     Ok(false)
 }
 
-fn try_all(rt: &LibcRuntime, book: &ClauseBook) -> io::Result<()> {
+// Tells what the veto says, with the atoms of its reason, and answers whether it is silent.
+fn ask_veto<V: Veto>(rt: &LibcRuntime, veto: &mut V, assignment: &[u8]) -> io::Result<bool> {
+    let mut ticks = [0; ATOMS];
+    match veto.examine(assignment, &mut ticks) {
+        Ok(Verdict::Silent) => {
+            println!(rt, ", may be burned")?;
+            Ok(true)
+        }
+        Ok(Verdict::Speaks) => {
+            print!(rt, ", vetoed for atoms")?;
+            for i in 0..ATOMS {
+                if ticks[i] == 1 {
+                    print!(rt, " {}", i + 1)?;
+                }
+            }
+            println!(rt, "")?;
+            Ok(false)
+        }
+        Err(refusal) => {
+            println!(rt, ", refused {}", refusal.number())?;
+            Ok(false)
+        }
+    }
+}
+
+fn try_all<V: Veto>(rt: &LibcRuntime, book: &ClauseBook, veto: &mut V) -> io::Result<()> {
     let mut count = 0usize;
     for number in 0..1usize << ATOMS {
-        if examine(rt, book, &candidate(number))? {
+        let assignment = candidate(number);
+        if evaluate(rt, book, &assignment)? && ask_veto(rt, veto, &assignment)? {
             count = count.saturating_add(1);
         }
     }
-    println!(rt, "{count} assignments meet the order")
+    println!(rt, "{count} assignments may be burned")
 }
 
 fn main(rt: LibcRuntime) -> io::Result<()> {
@@ -97,7 +132,16 @@ fn main(rt: LibcRuntime) -> io::Result<()> {
                 "held: {} clauses, {} literals",
                 counts.clauses, counts.literals
             )?;
-            try_all(&rt, &book)
+            println!(
+                rt,
+                "current: at most 380 mA; raw output 300, filter 250, brake 100"
+            )?;
+            let rows = [row(0, 380), row(1, 300), row(2, 250), row(3, 100)];
+            try_all(&rt, &book, &mut Load::new(&rows[..]))
         }
     }
+}
+
+fn row(atom: AtomNumber, load: Milliamperes) -> Row<Milliamperes> {
+    Row { atom, load }
 }
