@@ -1,0 +1,4 @@
+pub mod Extensions
+pub mod Literals
+pub mod States
+pub mod Ticking

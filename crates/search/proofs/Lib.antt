@@ -1,0 +1,4 @@
+pub mod Unknowns
+pub mod Steps
+pub mod Overlays
+pub mod Reasons

@@ -1,0 +1,3 @@
+pub mod Completions
+pub mod Masks
+pub mod Findings
