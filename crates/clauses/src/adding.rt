@@ -37,6 +37,19 @@ impl ClauseBook {
         })
     }
 
+    // A book of no atoms and no clauses.
+    pub fn empty() -> ClauseBook
+        ensures atoms { λ r. ⌜ atoms-of r ≡ 0 ⌝ }
+        ensures clauses { λ r. ⌜ clauses-of r ≡ [] ⌝ }
+    {
+        let stretches = Table::new(Stretch { start: 0, len: 0 });
+        ClauseBook {
+            atoms: 0,
+            literals: Table::new(0),
+            stretches,
+        }
+    }
+
     // One clause more at the end. A refusal changes nothing.
     pub fn add(&mut self, clause: &[Literal]) -> Result<(), Refusal>
         ensures refused { λ r. ⌜ errPart r ≡ refusal-of-adding (atoms-of (now (self .entry))) (clauses-of (now (self .entry))) (now (clause .entry)) ⌝ }

@@ -1,0 +1,4 @@
+pub mod Ledger
+pub mod Admitted
+pub mod Right
+pub mod Law

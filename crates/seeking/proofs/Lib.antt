@@ -1,0 +1,4 @@
+pub mod Fitting
+pub mod Raising
+pub mod Assuming
+pub mod Shrinking
