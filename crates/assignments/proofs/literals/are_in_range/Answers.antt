@@ -8,14 +8,14 @@ returns-then-atom-eq0 c =
     let z = get_or c.args.literals.now c.loop-literal.literal-index (pos 0) in
     let f : SFits w16 z = search rules in
     range_failed c.args.atoms c.args.literals.now c.loop-literal.literal-index c.loop-literal.invariant c.loop-literal-test.true
-    (range_out c.args.atoms z _ (simp to_z-of_z at c.unsigned-abs-atom.ensures.value) (⊎_elim inl (λ w. inr w.1) c.then-atom-eq0.either))
+    (range_out c.args.atoms z _ (simp to_z-of_z at c.unsigned_abs-atom.ensures.value) (⊎_elim inl (λ w. inr w.1) c.then-atom-eq0.either))
 
 pub loop-literal-preserved : goal.loop-literal-preserved
 loop-literal-preserved c =
     let z = get_or c.args.literals.now c.loop-literal.literal-index (pos 0) in
     let f : SFits w16 z = search rules in
     range_passed c.args.atoms c.args.literals.now c.loop-literal.literal-index c.loop-literal.invariant c.loop-literal-test.true
-    (range_in c.args.atoms z _ (simp to_z-of_z at c.unsigned-abs-atom.ensures.value) c.if-atom-eq0.false c.if-atom-atoms.false)
+    (range_in c.args.atoms z _ (simp to_z-of_z at c.unsigned_abs-atom.ensures.value) c.if-atom-eq0.false c.if-atom-atoms.false)
 
 pub returns : goal.returns
 returns c = range_ended c.args.atoms c.args.literals.now c.loop-literal.literal-index c.loop-literal.invariant c.loop-literal-test.false

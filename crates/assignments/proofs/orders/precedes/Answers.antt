@@ -5,7 +5,7 @@ use Rattle.assignments.proofs.orders.precedes.Goals as goal
 
 pub returns-then-l-r : goal.returns-then-l-r
 returns-then-l-r c = record {
-  decides = less_decided c.args.left.now c.args.right.now c.loop-i.i _ _ c.byte-at-l.ensures c.byte-at-r.ensures c.loop-i.invariant c.if-l-r.true _ c.is-zero-one.ensures;
+  decides = less_decided c.args.left.now c.args.right.now c.loop-i.i _ _ c.byte_at-l.ensures c.byte_at-r.ensures c.loop-i.invariant c.if-l-r.true _ c.is_zero_one.ensures;
   total = strict_total_order;
 }
 

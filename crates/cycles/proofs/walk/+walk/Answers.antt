@@ -8,9 +8,9 @@ use Rattle.cycles.specs.ChainLaws.{Live}
 use Rattle.cycles.proofs.WalkLaws.{free, free_falls, restored, one_done, all_end, live_here, marks_here, edge_marked, chain_marked, closes_here}
 use Rattle.cycles.proofs.walk.+walk.Goals as goal
 
-pub loop-arc-preserved-then-not-is-live : goal.loop-arc-preserved-then-not-is-live
-loop-arc-preserved-then-not-is-live t c =
-    let off = eqb-false _ _ (sym c.if-not-is-live.ensures) in
+pub loop-arc-preserved-then-not-is_live : goal.loop-arc-preserved-then-not-is_live
+loop-arc-preserved-then-not-is_live t c =
+    let off = eqb-false _ _ (sym c.if-not-is_live.ensures) in
     (c.loop-arc.invariant.0, below_more _ _ c.loop-arc.invariant.1 (λ _ on. absurd (off on)), c.loop-arc.invariant.2, c.loop-arc.invariant.3)
 
 pub returns-then-on-to : goal.returns-then-on-to
@@ -20,7 +20,7 @@ returns-then-on-to t c =
     let k = c.loop-arc.arc-index in
     let m = c.loop-arc.marks in
     let to = (get_or xs k no_arc).to in
-    let on = eqb-true _ _ (sym c.if-not-is-live.ensures) in
+    let on = eqb-true _ _ (sym c.if-not-is_live.ensures) in
     let seen : get_or (set c.args.on.now c.args.at true) to false ≡ true = subst (λ l. get_or l to false ≡ true) c.loop-arc.invariant.0 c.if-on-to.true in
     record {
       walked = closes_here xs p c.args.on.now c.loop-arc.on c.loop-arc.done _ c.args.at to c.closing.result c.closing.ensures seen
@@ -34,10 +34,16 @@ walk-requires t c =
     let p = c.args.assignment.now in
     let k = c.loop-arc.arc-index in
     let on = c.args.on.now in
-    let live = live_here xs p k c.loop-arc-test.true c.args.at c.if-arc-at.false (eqb-true _ _ (sym c.if-not-is-live.ensures)) in
+    let live = live_here xs p k c.loop-arc-test.true c.args.at c.if-arc-at.false (eqb-true _ _ (sym c.if-not-is_live.ensures)) in
     let within : c.args.at < length on = search rules in
     let fall : free c.loop-arc.on < free on = subst (λ l. free l < free on) (sym c.loop-arc.invariant.0) (free_falls on c.args.at within c.requires.fresh) in
-    (omega (arith, c.decreases), (search rules, (search rules, (omega (arith, live.to_high), (c.if-on-to.false, (c.loop-arc.invariant.2, c.loop-arc.invariant.3))))))
+    (
+      omega (arith, c.decreases),
+      (
+        (search rules, (search rules, omega (arith, live.to_high))),
+        (c.if-on-to.false, (c.loop-arc.invariant.2, c.loop-arc.invariant.3)),
+      ),
+    )
 
 pub returns-in-Closing : goal.returns-in-Closing
 returns-in-Closing t c =
@@ -46,7 +52,7 @@ returns-in-Closing t c =
     let k = c.loop-arc.arc-index in
     let m = c.walk.new.marks in
     let s = c.in-Closing.signal in
-    let on = eqb-true _ _ (sym c.if-not-is-live.ensures) in
+    let on = eqb-true _ _ (sym c.if-not-is_live.ensures) in
     let found = c.in-Closing.ensures.walked in
     let marked = c.in-Closing.ensures.marked in
     let seen : get_or (set c.args.on.now c.args.at true) s false ≡ true = subst (λ l. get_or l s false ≡ true) c.loop-arc.invariant.0 found.0 in

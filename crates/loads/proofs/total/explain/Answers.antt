@@ -3,15 +3,15 @@ use Rattle.loads.specs.Rows.{total}
 use Rattle.loads.specs.Sums.{is_on, counted, skipped, marked_skip, marked_one, marks_on, marked_over}
 use Rattle.loads.proofs.total.explain.Goals as goal
 
-pub loop-row-preserved-then-not-is-live : goal.loop-row-preserved-then-not-is-live
-loop-row-preserved-then-not-is-live g c =
+pub loop-row-preserved-then-not-is_live : goal.loop-row-preserved-then-not-is_live
+loop-row-preserved-then-not-is_live g c =
     let m = g.L.LoadKind in
     let laws = g.met.L.LoadKind in
     let p = c.args.assignment.now in
     let rs = c.args.rows.now in
     let i = c.loop-row.row-index in
     let r = c.row-item.result in
-    let off = sym c.if-not-is-live.ensures in (
+    let off = sym c.if-not-is_live.ensures in (
       skipped m.empty m.join laws.assoc laws.comm p rs i r _ _ c.loop-row-test.true c.row-item.is off c.loop-row.invariant.0 refl,
       c.loop-row.invariant.1,
       marked_skip p c.loop-row.marks rs i r c.loop-row-test.true c.row-item.is c.loop-row.invariant.2 off,
@@ -25,27 +25,27 @@ loop-row-preserved g c =
     let rs = c.args.rows.now in
     let i = c.loop-row.row-index in
     let r = c.row-item.result in
-    let on = sym c.if-not-is-live.ensures in (
+    let on = sym c.if-not-is_live.ensures in (
       counted m.empty m.join laws.assoc laws.comm p rs i r _ _ c.loop-row-test.true c.row-item.is on c.loop-row.invariant.0 c.joined-sum.ensures,
       marks_on p c.loop-row.marks r (is_on p r on) c.loop-row.invariant.1,
       marked_one p c.loop-row.marks rs i r c.loop-row-test.true c.row-item.is c.loop-row.invariant.2 (is_on p r on) c.loop-row.invariant.1,
     )
 
-pub returns-then-is-over : goal.returns-then-is-over
-returns-then-is-over g c =
+pub returns-then-is_over : goal.returns-then-is_over
+returns-then-is_over g c =
     let m = g.L.LoadKind in
     let laws = g.met.L.LoadKind in
     let p = c.args.assignment.now in
     let rs = c.args.rows.now in
     let i = c.loop-row.row-index in
     let r = c.row-item.result in
-    let on = sym c.if-not-is-live.ensures in
+    let on = sym c.if-not-is_live.ensures in
     let sum = counted m.empty m.join laws.assoc laws.comm p rs i r _ _ c.loop-row-test.true c.row-item.is on c.loop-row.invariant.0 c.joined-sum.ensures in
     record {
       marked = marks_on p c.loop-row.marks r (is_on p r on) c.loop-row.invariant.1;
       reason = λ _. marked_over m.empty m.join laws.assoc laws.comm m.over laws.stays c.args.limit p _ rs _
           (marked_one p c.loop-row.marks rs i r c.loop-row-test.true c.row-item.is c.loop-row.invariant.2 (is_on p r on) c.loop-row.invariant.1)
-          (subst (λ x. m.over c.args.limit x ≡ true) sum (sym c.if-is-over.ensures));
+          (subst (λ x. m.over c.args.limit x ≡ true) sum (sym c.if-is_over.ensures));
     }
 
 pub returns : goal.returns

@@ -2,7 +2,7 @@ use Rattle.std.proofs.Common.{sym, ap, ◌∙◌, take_all}
 use Rattle.loads.specs.Rows.{total}
 use Rattle.loads.specs.Sums.{counted, skipped}
 use Rattle.loads.proofs.total.total_of.Goals as goal
-use Rattle.loads.proofs.total.total_of.Goals.{then-is-live, else-is-live}
+use Rattle.loads.proofs.total.total_of.Goals.{then-is_live, else-is_live}
 
 pub loop-row-preserved : goal.loop-row-preserved
 loop-row-preserved g c =
@@ -11,10 +11,10 @@ loop-row-preserved g c =
     let p = c.args.assignment.now in
     let rs = c.args.rows.now in
     let i = c.loop-row.row-index in
-    let told = c.is-live.ensures in
-    elim c.if-is-live.branch [
-      | then-is-live w ↦ counted m.empty m.join laws.assoc laws.comm p rs i _ _ _ c.loop-row-test.true c.row-item.is (sym told ∙ w.if-is-live.true) c.loop-row.invariant (w.all-is ∙ w.joined-all.ensures)
-      | else-is-live w ↦ skipped m.empty m.join laws.assoc laws.comm p rs i _ _ _ c.loop-row-test.true c.row-item.is (sym told ∙ w.if-is-live.false) c.loop-row.invariant w.all-is
+    let told = c.is_live.ensures in
+    elim c.if-is_live.branch [
+      | then-is_live w ↦ counted m.empty m.join laws.assoc laws.comm p rs i _ _ _ c.loop-row-test.true c.row-item.is (sym told ∙ w.if-is_live.true) c.loop-row.invariant (w.all-is ∙ w.joined-all.ensures)
+      | else-is_live w ↦ skipped m.empty m.join laws.assoc laws.comm p rs i _ _ _ c.loop-row-test.true c.row-item.is (sym told ∙ w.if-is_live.false) c.loop-row.invariant w.all-is
     ]
 
 pub returns : goal.returns

@@ -5,9 +5,9 @@ use Rattle.propagation.specs.Ticking.{Adds, Named}
 use Rattle.propagation.proofs.TickSteps.{adds_none}
 use Rattle.propagation.proofs.explaining.explain.Goals as goal
 
-pub returns-in-default : goal.returns-in-default
-returns-in-default c w =
+pub returns-in_default : goal.returns-in_default
+returns-in_default c w =
     let p = c.args.assignment.now in
     let t = c.args.ticks.now in
-    let none = get_or_past (clauses_of c.args.book.now) c.args.index [] c.in-default.ensures in
+    let none = get_or_past (clauses_of c.args.book.now) c.args.index [] c.in_default.ensures in
     subst (λ l. Adds (Named p l (length l)) t t) (sym none) (adds_none _ t (λ j m. omega (arith, m.within)))

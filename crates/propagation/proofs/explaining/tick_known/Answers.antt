@@ -14,7 +14,7 @@ loop-literal-preserved-then-atom-eq0 c w =
     let z = get_or ls j (pos 0) in
     let p = c.args.assignment.now in
     let f : SFits w16 z = search rules in
-    let a : c.unsigned-abs-atom.result ≡ nat_abs z = simp to_z-of_z at c.unsigned-abs-atom.ensures.value in
+    let a : c.unsigned_abs-atom.result ≡ nat_abs z = simp to_z-of_z at c.unsigned_abs-atom.ensures.value in
     named_skip p ls j _ _ (out_of_range p z _ a (⊎_elim inl (λ x. inr x.1) c.then-atom-eq0.either)) (c.loop-literal.invariant w)
 
 pub loop-literal-preserved-then-assignment-atom-gt1 : goal.loop-literal-preserved-then-assignment-atom-gt1
@@ -24,8 +24,8 @@ loop-literal-preserved-then-assignment-atom-gt1 c w =
     let z = get_or ls j (pos 0) in
     let p = c.args.assignment.now in
     let f : SFits w16 z = search rules in
-    let a : c.unsigned-abs-atom.result ≡ nat_abs z = simp to_z-of_z at c.unsigned-abs-atom.ensures.value in
-    let i = c.unsigned-abs-atom.result - 1 in
+    let a : c.unsigned_abs-atom.result ≡ nat_abs z = simp to_z-of_z at c.unsigned_abs-atom.ensures.value in
+    let i = c.unsigned_abs-atom.result - 1 in
     let e : i ≡ place z = place_atom z _ a c.if-atom-eq0.false in
     let r = at_read p i (search rules) in
     named_skip p ls j _ _ (λ _ k. let k' : at p i < 2 = subst (λ x. at p x < 2) (sym e) k in omega arith) (c.loop-literal.invariant w)
@@ -40,7 +40,7 @@ loop-literal-preserved c w =
     let z = get_or ls j (pos 0) in
     let p = c.args.assignment.now in
     let f : SFits w16 z = search rules in
-    let a : c.unsigned-abs-atom.result ≡ nat_abs z = simp to_z-of_z at c.unsigned-abs-atom.ensures.value in
-    let i = c.unsigned-abs-atom.result - 1 in
+    let a : c.unsigned_abs-atom.result ≡ nat_abs z = simp to_z-of_z at c.unsigned_abs-atom.ensures.value in
+    let i = c.unsigned_abs-atom.result - 1 in
     let r = at_read p i (search rules) in
     named_tick p ls j _ c.loop-literal.ticks i (place_atom z _ a c.if-atom-eq0.false) (real_atom z _ a c.if-atom-eq0.false) (omega arith) (search rules) (c.loop-literal.invariant w)

@@ -46,22 +46,22 @@ returns-in-Rewind g c = let i = c.in-Rewind.is in record {
 pub returns-in-Next : goal.returns-in-Next
 returns-in-Next g c =
     let i = c.in-Next.is in
-    let full : vec_items (with_items c.in-Next.out c.next.new.out) ≡ c.next.new.out = with_items_is c.in-Next.out c.next.new.out (c.next.auto.out ∙ c.deref-mut.ensures.len) in
+    let full : vec_items (with_items c.in-Next.out c.next.new.out) ≡ c.next.new.out = with_items_is c.in-Next.out c.next.new.out (c.next.auto.out ∙ c.deref_mut.ensures.len) in
     record {
       meaning = c.next.ensures.meaning;
-      keeps = next_keeps c.args.call.now (Next (with_items c.in-Next.out c.next.new.out)) c.handed.result (ap next c.deref-mut.ensures.value ∙ sym (ap called i)) c.next.result c.next.new.out c.handed.ensures (ap (λ x. x ∷ []) full) c.next.ensures.keeps;
+      keeps = next_keeps c.args.call.now (Next (with_items c.in-Next.out c.next.new.out)) c.handed.result (ap next c.deref_mut.ensures.value ∙ sym (ap called i)) c.next.result c.next.new.out c.handed.ensures (ap (λ x. x ∷ []) full) c.next.ensures.keeps;
       arguments = sym (ap asked i);
     }
 
 pub returns-in-Ask : goal.returns-in-Ask
 returns-in-Ask g c =
     let i = c.in-Ask.is in
-    let full : vec_items (with_items c.in-Ask.out c.ask.new.out) ≡ c.ask.new.out = with_items_is c.in-Ask.out c.ask.new.out (c.ask.auto.out ∙ c.deref-mut-in-Ask.ensures.len) in
-    let marks : vec_items (with_items c.in-Ask.ticks c.ask.new.ticks) ≡ c.ask.new.ticks = with_items_is c.in-Ask.ticks c.ask.new.ticks (c.ask.auto.ticks ∙ c.deref-mut-in-Ask-2.ensures.len) in
-    let same : ask c.deref-in-Ask.result.now c.deref-mut-in-Ask.result.now c.deref-mut-in-Ask-2.result.now ≡ ask (vec_items c.in-Ask.assumed) (vec_items c.in-Ask.out) (vec_items c.in-Ask.ticks) =
-    ap (λ x. ask x c.deref-mut-in-Ask.result.now c.deref-mut-in-Ask-2.result.now) c.deref-in-Ask.ensures.value
-    ∙ ap (λ x. ask (vec_items c.in-Ask.assumed) x c.deref-mut-in-Ask-2.result.now) c.deref-mut-in-Ask.ensures.value
-    ∙ ap (ask (vec_items c.in-Ask.assumed) (vec_items c.in-Ask.out)) c.deref-mut-in-Ask-2.ensures.value in
+    let full : vec_items (with_items c.in-Ask.out c.ask.new.out) ≡ c.ask.new.out = with_items_is c.in-Ask.out c.ask.new.out (c.ask.auto.out ∙ c.deref_mut-in-Ask.ensures.len) in
+    let marks : vec_items (with_items c.in-Ask.ticks c.ask.new.ticks) ≡ c.ask.new.ticks = with_items_is c.in-Ask.ticks c.ask.new.ticks (c.ask.auto.ticks ∙ c.deref_mut-in-Ask-2.ensures.len) in
+    let same : ask c.deref-in-Ask.result.now c.deref_mut-in-Ask.result.now c.deref_mut-in-Ask-2.result.now ≡ ask (vec_items c.in-Ask.assumed) (vec_items c.in-Ask.out) (vec_items c.in-Ask.ticks) =
+    ap (λ x. ask x c.deref_mut-in-Ask.result.now c.deref_mut-in-Ask-2.result.now) c.deref-in-Ask.ensures.value
+    ∙ ap (λ x. ask (vec_items c.in-Ask.assumed) x c.deref_mut-in-Ask-2.result.now) c.deref_mut-in-Ask.ensures.value
+    ∙ ap (ask (vec_items c.in-Ask.assumed) (vec_items c.in-Ask.out)) c.deref_mut-in-Ask-2.ensures.value in
     record {
       meaning = c.ask.ensures.meaning;
       keeps = ask_keeps c.args.call.now (Ask c.in-Ask.assumed (with_items c.in-Ask.out c.ask.new.out) (with_items c.in-Ask.ticks c.ask.new.ticks)) c.wished.result (same ∙ sym (ap called i)) c.ask.result c.ask.new.out c.ask.new.ticks c.wished.ensures

@@ -8,8 +8,8 @@ use Rattle.seeking.specs.Including.{chosen}
 use Rattle.seeking.proofs.Assuming.{stands_none, stands_skip, stands_same, stands_set, stands_all, none_named, none_differs, at_length}
 use Rattle.seeking.proofs.including.assume.Goals as goal
 
-pub loop-index-preserved-then-not-is-chosen : goal.loop-index-preserved-then-not-is-chosen
-loop-index-preserved-then-not-is-chosen c =
+pub loop-index-preserved-then-not-is_chosen : goal.loop-index-preserved-then-not-is_chosen
+loop-index-preserved-then-not-is_chosen c =
     let off : chosen c.args.all c.args.ticks.now c.loop-index.index ≡ false = search rules in
     stands_skip _ _ _ _ c.loop-index.assignment c.loop-index.index c.loop-index.invariant off
 
@@ -21,7 +21,7 @@ returns-then-atom-eq0 c =
     let z = get_or ls j (pos 0) in
     let pick : chosen c.args.all c.args.ticks.now j ≡ true = search rules in
     let f : SFits w16 z = search rules in
-    let a : c.unsigned-abs-atom.result ≡ nat_abs z = simp to_z-of_z at c.unsigned-abs-atom.ensures.value in
+    let a : c.unsigned_abs-atom.result ≡ nat_abs z = simp to_z-of_z at c.unsigned_abs-atom.ensures.value in
     let long : length w ≡ length c.args.assignment.now = search rules in
     none_named ls c.args.all c.args.ticks.now (length c.args.assignment.now) w j (at_length c.unknown.auto.assignment c.loop-index.invariant) _ a (⊎_elim inl (λ x. inr (omega arith)) c.then-atom-eq0.either) (search rules) pick
 
@@ -33,9 +33,9 @@ loop-index-preserved-then-assignment-atom-gt1 c =
     let z = get_or ls j (pos 0) in
     let pick : chosen c.args.all c.args.ticks.now j ≡ true = search rules in
     let f : SFits w16 z = search rules in
-    let a : c.unsigned-abs-atom.result ≡ nat_abs z = simp to_z-of_z at c.unsigned-abs-atom.ensures.value in
+    let a : c.unsigned_abs-atom.result ≡ nat_abs z = simp to_z-of_z at c.unsigned_abs-atom.ensures.value in
     let v : c.wanted-value.result ≡ wanted z = simp to_z-of_z at c.wanted-value.ensures in
-    let k = c.unsigned-abs-atom.result - 1 in
+    let k = c.unsigned_abs-atom.result - 1 in
     let pl : k ≡ place z = place_atom z _ a c.if-atom-eq0.false in
     let real = real_atom z _ a c.if-atom-eq0.false in
     let within : k < length w = search rules in
@@ -50,9 +50,9 @@ returns-then-assignment-atom c =
     let z = get_or ls j (pos 0) in
     let pick : chosen c.args.all c.args.ticks.now j ≡ true = search rules in
     let f : SFits w16 z = search rules in
-    let a : c.unsigned-abs-atom.result ≡ nat_abs z = simp to_z-of_z at c.unsigned-abs-atom.ensures.value in
+    let a : c.unsigned_abs-atom.result ≡ nat_abs z = simp to_z-of_z at c.unsigned_abs-atom.ensures.value in
     let v : c.wanted-value.result ≡ wanted z = simp to_z-of_z at c.wanted-value.ensures in
-    let k = c.unsigned-abs-atom.result - 1 in
+    let k = c.unsigned_abs-atom.result - 1 in
     let pl : k ≡ place z = place_atom z _ a c.if-atom-eq0.false in
     let real = real_atom z _ a c.if-atom-eq0.false in
     let within : k < length w = search rules in
@@ -67,9 +67,9 @@ loop-index-preserved c =
     let z = get_or ls j (pos 0) in
     let pick : chosen c.args.all c.args.ticks.now j ≡ true = search rules in
     let f : SFits w16 z = search rules in
-    let a : c.unsigned-abs-atom.result ≡ nat_abs z = simp to_z-of_z at c.unsigned-abs-atom.ensures.value in
+    let a : c.unsigned_abs-atom.result ≡ nat_abs z = simp to_z-of_z at c.unsigned_abs-atom.ensures.value in
     let v : c.wanted-value.result ≡ wanted z = simp to_z-of_z at c.wanted-value.ensures in
-    let k = c.unsigned-abs-atom.result - 1 in
+    let k = c.unsigned_abs-atom.result - 1 in
     let pl : k ≡ place z = place_atom z _ a c.if-atom-eq0.false in
     let real = real_atom z _ a c.if-atom-eq0.false in
     let within : k < length w = search rules in

@@ -2,14 +2,14 @@ use Rattle.std.proofs.Common.{◌≡◌, length, sym, refl, ap}
 use Rattle.clauses.proofs.Fronts.{literals_grow, stretches_grow, still_ranged, still_whole, one_more}
 use Rattle.clauses.proofs.book.ClauseBook.add.Goals as goal
 
-pub invariant-of-self : goal.invariant-of-self
-invariant-of-self c =
+pub invariant_of-self : goal.invariant_of-self
+invariant_of-self c =
     let b = c.args.self.now in
     let new = c.args.clause.now in
     let free = sym c.in-None.ensures in
     let ls = literals_grow b new free _ _ c.extend.ensures.value c.extend.ensures.items in
-    let ss = stretches_grow b new free _ _ _ c.push.ensures.value (ap length c.as-slice-start.ensures) c.push.ensures.items in
-    (b.few, (still_ranged b new free _ _ ls ss, (still_whole b new free _ _ ls ss, tt)))
+    let ss = stretches_grow b new free _ _ _ c.push.ensures.value (ap length c.as_slice-start.ensures) c.push.ensures.items in
+    record { few = b.few; ranged = still_ranged b new free _ _ ls ss; whole = still_whole b new free _ _ ls ss }
 
 pub returns-in-None : goal.returns-in-None
 returns-in-None c =
@@ -17,5 +17,5 @@ returns-in-None c =
     let new = c.args.clause.now in
     let free = sym c.in-None.ensures in
     let ls = literals_grow b new free _ _ c.extend.ensures.value c.extend.ensures.items in
-    let ss = stretches_grow b new free _ _ _ c.push.ensures.value (ap length c.as-slice-start.ensures) c.push.ensures.items in
+    let ss = stretches_grow b new free _ _ _ c.push.ensures.value (ap length c.as_slice-start.ensures) c.push.ensures.items in
     record { refused = c.in-None.ensures; clauses = one_more b new free _ _ ls ss; atoms = refl }

@@ -4,6 +4,6 @@ use Rattle.clauses.proofs.book.ClauseBook.counts.Goals as goal
 
 pub returns : goal.returns
 returns c = record {
-  clauses = ap length c.as-slice.ensures ∙ sym (clause_count c.args.self.now);
-  literals = ap length c.as-slice-2.ensures ∙ sym (all_literals c.args.self.now);
+  clauses = ap length c.as_slice.ensures ∙ sym (clause_count c.args.self.now);
+  literals = ap length c.as_slice-2.ensures ∙ sym (all_literals c.args.self.now);
 }

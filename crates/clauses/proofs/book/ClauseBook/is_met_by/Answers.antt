@@ -23,10 +23,10 @@ answer b p ls ss r e f h =
 pub returns-in-clauses : goal.returns-in-clauses
 returns-in-clauses c =
     let p = c.args.assignment.now in
-    let ls = c.as-slice-literals.result.now in
-    let ss = c.as-slice-stretches.result.now in
+    let ls = c.as_slice-literals.result.now in
+    let ss = c.as_slice-stretches.result.now in
     let k = cut ls (get_or ss c.clauses.stretch-index no_stretch) in
-    let a = answer c.args.self.now p ls ss false c.as-slice-literals.ensures c.as-slice-stretches.ensures
+    let a = answer c.args.self.now p ls ss false c.as_slice-literals.ensures c.as_slice-stretches.ensures
     (clause_unmet p ls ss c.clauses.stretch-index c.clauses.invariant c.clauses-test.true
     (met_ended p k c.loop-literal.literal-index c.loop-literal.invariant c.loop-literal-test.false)) in
     record { value = a.0; decides = a.1 }
@@ -34,45 +34,45 @@ returns-in-clauses c =
 pub returns : goal.returns
 returns c =
     let p = c.args.assignment.now in
-    let ls = c.as-slice-literals.result.now in
-    let ss = c.as-slice-stretches.result.now in
-    let a = answer c.args.self.now p ls ss true c.as-slice-literals.ensures c.as-slice-stretches.ensures
+    let ls = c.as_slice-literals.result.now in
+    let ss = c.as_slice-stretches.result.now in
+    let a = answer c.args.self.now p ls ss true c.as_slice-literals.ensures c.as_slice-stretches.ensures
     (clauses_done p ls ss c.clauses.stretch-index c.clauses.invariant c.clauses-test.false) in
     record { value = a.0; decides = a.1 }
 
-pub overflow-add-end : goal.overflow-add-end
-overflow-add-end c =
-    let w = within c.args.self.now c.as-slice-literals.result.now c.as-slice-stretches.result.now c.as-slice-literals.ensures c.as-slice-stretches.ensures c.clauses.stretch-index c.clauses-test.true in
+pub overflow_add-end : goal.overflow_add-end
+overflow_add-end c =
+    let w = within c.args.self.now c.as_slice-literals.result.now c.as_slice-stretches.result.now c.as_slice-literals.ensures c.as_slice-stretches.ensures c.clauses.stretch-index c.clauses-test.true in
     search rules
 
-pub offset-bounds-literals-start : goal.offset-bounds-literals-start
-offset-bounds-literals-start c =
-    let w = within c.args.self.now c.as-slice-literals.result.now c.as-slice-stretches.result.now c.as-slice-literals.ensures c.as-slice-stretches.ensures c.clauses.stretch-index c.clauses-test.true in
+pub offset_bounds-literals-start : goal.offset_bounds-literals-start
+offset_bounds-literals-start c =
+    let w = within c.args.self.now c.as_slice-literals.result.now c.as_slice-stretches.result.now c.as_slice-literals.ensures c.as_slice-stretches.ensures c.clauses.stretch-index c.clauses-test.true in
     search rules
 
-pub slice-bounds-literal-items-end : goal.slice-bounds-literal-items-end
-slice-bounds-literal-items-end c =
-    let w = within c.args.self.now c.as-slice-literals.result.now c.as-slice-stretches.result.now c.as-slice-literals.ensures c.as-slice-stretches.ensures c.clauses.stretch-index c.clauses-test.true in
+pub slice_bounds-literal-items-end : goal.slice_bounds-literal-items-end
+slice_bounds-literal-items-end c =
+    let w = within c.args.self.now c.as_slice-literals.result.now c.as_slice-stretches.result.now c.as_slice-literals.ensures c.as_slice-stretches.ensures c.clauses.stretch-index c.clauses-test.true in
     search rules
 
-pub offset-bounds-literal-items-literal-index : goal.offset-bounds-literal-items-literal-index
-offset-bounds-literal-items-literal-index c =
-    let w = within c.args.self.now c.as-slice-literals.result.now c.as-slice-stretches.result.now c.as-slice-literals.ensures c.as-slice-stretches.ensures c.clauses.stretch-index c.clauses-test.true in
+pub offset_bounds-literal-items-literal-index : goal.offset_bounds-literal-items-literal-index
+offset_bounds-literal-items-literal-index c =
+    let w = within c.args.self.now c.as_slice-literals.result.now c.as_slice-stretches.result.now c.as_slice-literals.ensures c.as_slice-stretches.ensures c.clauses.stretch-index c.clauses-test.true in
     search rules
 
 pub clauses-preserved : goal.clauses-preserved
 clauses-preserved c =
     let p = c.args.assignment.now in
-    let ls = c.as-slice-literals.result.now in
-    let ss = c.as-slice-stretches.result.now in
+    let ls = c.as_slice-literals.result.now in
+    let ss = c.as_slice-stretches.result.now in
     let k = cut ls (get_or ss c.clauses.stretch-index no_stretch) in
     let f : SFits w16 (get_or k c.loop-literal.literal-index (pos 0)) = search rules in
     clause_met p ls ss c.clauses.stretch-index c.clauses.invariant c.clauses-test.true
-    (met_found p k c.loop-literal.literal-index c.loop-literal.invariant c.loop-literal-test.true (simp to_z-of_z at c.if-is-true.ensures))
+    (met_found p k c.loop-literal.literal-index c.loop-literal.invariant c.loop-literal-test.true (simp to_z-of_z at c.if-is_true.ensures))
 
 pub loop-literal-preserved : goal.loop-literal-preserved
 loop-literal-preserved c =
     let p = c.args.assignment.now in
-    let k = cut c.as-slice-literals.result.now (get_or c.as-slice-stretches.result.now c.clauses.stretch-index no_stretch) in
+    let k = cut c.as_slice-literals.result.now (get_or c.as_slice-stretches.result.now c.clauses.stretch-index no_stretch) in
     let f : SFits w16 (get_or k c.loop-literal.literal-index (pos 0)) = search rules in
-    met_passed p k c.loop-literal.literal-index c.loop-literal.invariant c.loop-literal-test.true (simp to_z-of_z at c.if-is-true.ensures)
+    met_passed p k c.loop-literal.literal-index c.loop-literal.invariant c.loop-literal-test.true (simp to_z-of_z at c.if-is_true.ensures)
