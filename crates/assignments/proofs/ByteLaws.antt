@@ -1,8 +1,8 @@
 -- Values read off the bytes of an assignment. Assumes nothing.
-use Rattle.std.proofs.Common.{◌≡◌, ℕ, zero, suc, ◌-◌, ◌<◌, ◌≤◌, min, ◌⊎◌, List, length, get_or, set, sym, refl, ap, ◌∙◌, subst, inl, inr, ⊎_elim, arith, get_or-set_other, get_or-set_same}
+use Rattle.std.proofs.Common.{◌≡◌, ℕ, zero, suc, ◌-◌, ◌<◌, ◌≤◌, min, ◌⊎◌, List, length, get_or, set, sym, refl, ap, ◌∙◌, inl, inr, ⊎_elim, arith, get_or-set_other, get_or-set_same}
 use Rattle.std.proofs.lemmas.Bool.{cases_eq, cases_lt}
 use Rattle.std.proofs.lemmas.List.{get_or_default, get_or_past, same_lists}
-use Rattle.assignments.specs.Assignments.{at, atom, Part, Complete}
+use Rattle.assignments.specs.Assignments.{at, atom, Complete}
 
 -- what the code reads at a place within the assignment
 pub at_read : (p : List ℕ) (i : ℕ) → i < length p → at p i ≡ min (get_or p i 0) 2

@@ -1,5 +1,5 @@
 -- A test that came out one way decides its fact. Assumes nothing.
-use Rattle.std.proofs.Common.{◌≡◌, Bool, true, false, Decides, refl}
+use Rattle.std.proofs.Common.{true, false, Decides, refl}
 use Rattle.std.proofs.lemmas.Bool.{both_ways}
 
 pub decided_yes : {P : Type 0} → P → Decides true P

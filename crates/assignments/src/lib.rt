@@ -2,6 +2,7 @@
 //
 // An assignment is a slice of bytes, one for each atom from atom 1 on: 0 is false, 1 is true, and any other byte is
 // unknown. Atoms past its end are unknown.
+#![tactic(auto)]
 
 pub mod literals;
 pub mod orders;

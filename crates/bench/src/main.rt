@@ -1,5 +1,7 @@
 // Problems that tell how far the search comes: without arguments small ones, with their nodes; with a case, a size and a seed that
 // one, with its time.
+#![tactic(auto)]
+
 mod counting;
 mod problems;
 mod random;

@@ -1,8 +1,8 @@
 -- A book's counts, and what is left of its invariant when it grows or is cut. Assumes nothing.
-use Rattle.std.proofs.Common.{◌≡◌, ℕ, zero, suc, ◌+◌, ◌<◌, ◌≤◌, Bool, true, false, cond, ◌&&◌, eqb, ltb, leb, List, [], ◌∷◌, ◌++◌, map, length, get_or, take, drop, ℤ, pos, is_some, Some, None, sym, refl, ap, ◌∙◌, subst, arith, length-append, take_all}
+use Rattle.std.proofs.Common.{◌≡◌, ℕ, zero, suc, ◌+◌, ◌<◌, ◌≤◌, Bool, true, false, cond, eqb, ltb, leb, List, [], ◌∷◌, ◌++◌, length, get_or, take, ℤ, is_some, Some, None, sym, refl, ap, ◌∙◌, arith, length-append, take_all}
 use lib.ListN.{length-map}
-use Rattle.std.proofs.lemmas.List.{map-append, take_at, drop_at}
-use Rattle.std.proofs.lemmas.Bool.{true≢false, and_from, and_parts, and_left, eq-eqb, eqb-true, le-leb, leb-true, lt-leb, lt-ltb, ltb-true, cond-true}
+use Rattle.std.proofs.lemmas.List.{map-append, drop_at}
+use Rattle.std.proofs.lemmas.Bool.{true≢false, and_from, and_parts, and_left, eqb-true, le-leb, leb-true, lt-leb, lt-ltb, ltb-true, cond-true}
 use Rattle.std.proofs.lemmas.Bool.Decides.{nat_tests}
 use Rattle.refusals.specs.declared.Refusal.{Refusal}
 use Rattle.refusals.specs.declared.Refusal.TheVariants.{LiteralOutOfRange, ClauseTableFull, LiteralTableFull}

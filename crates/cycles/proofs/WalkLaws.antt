@@ -1,20 +1,19 @@
 -- What a step of the walk keeps. Assumes nothing.
-use Rattle.std.proofs.Common.{◌≡◌, ℕ, zero, suc, ◌+◌, ◌-◌, ◌<◌, ◌≤◌, Bool, true, false, cond, eqb, ◌⊎◌, List, [], ◌∷◌, length, get_or, set, replicate, sym, refl, ap, ◌∙◌, subst, inl, inr, ⊎_elim, arith, get_or-set_other, get_or-set_same, set-set}
+use Rattle.std.proofs.Common.{◌≡◌, ℕ, zero, suc, ◌-◌, ◌<◌, ◌≤◌, Bool, true, false, cond, eqb, List, [], ◌∷◌, length, get_or, set, replicate, sym, refl, ap, ◌∙◌, subst, ⊎_elim, arith, get_or-set_other, set-set}
 use lib.Seq.{set-get_or}
 use Rattle.std.proofs.lemmas.Bool.{both_ways, cases_eq, eq-eqb, ne_eqb, cond-true, cond-false}
-use Rattle.assignments.specs.Assignments.{at, atom, Part}
-use Rattle.assignments.specs.Limits.{atom_limit}
+use Rattle.assignments.specs.Assignments.{atom}
 use Rattle.vetoes.specs.Marks.{Marks}
 use Rattle.vetoes.specs.Verdicts.{ticked}
 use Rattle.vetoes.proofs.Marking.{set_grows, ticked_grows, ticked_atom, marks_atom, marked_there}
 use Rattle.cycles.specs.declared.arc.Arc.{Arc}
 use Rattle.cycles.specs.declared.walk.Outcome.{Outcome}
-use Rattle.cycles.specs.declared.walk.Outcome.TheVariants.{Ended, Closing, Found}
+use Rattle.cycles.specs.declared.walk.Outcome.TheVariants.{Closing, Found}
 use Rattle.cycles.specs.Limits.{signal_limit}
 use Rattle.cycles.specs.Arcs.{counted_arc}
 use Rattle.cycles.specs.Graphs.{no_arc, Edge, Chain, last, link, Closed}
 use Rattle.cycles.specs.Walks.{Ends, ends, Done, Walked}
-use Rattle.cycles.specs.ChainLaws.{Live, live_arc, counted_is, edge_to, edge_grows, chain_grows, chain_join}
+use Rattle.cycles.specs.ChainLaws.{Live, live_arc, counted_is, chain_grows, chain_join}
 
 -- how many signals are not on the chain
 abbrev pub free : List Bool → ℕ

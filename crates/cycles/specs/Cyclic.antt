@@ -1,7 +1,6 @@
 -- Whether there is a closed chain, as a test: signals are allowed on the way one after the other. It is not unfolded, since
 -- it computes for long; that it decides `Closed` is all that is used of it. Assumes nothing.
-use Rattle.std.specs.Prelude.{ℕ, zero, suc, Bool, true, false, ◌&&◌, ◌||◌, List, [], ◌∷◌, ◌==◌}
-use Rattle.assignments.specs.Assignments.{atom}
+use Rattle.std.specs.Prelude.{ℕ, zero, suc, Bool, false, ◌&&◌, ◌||◌, List, [], ◌∷◌, ◌==◌}
 use Rattle.vetoes.specs.Counted.{highest_of, live}
 use Rattle.vetoes.specs.Meaning.{Meaning}
 use Rattle.cycles.specs.declared.arc.Arc.{Arc}

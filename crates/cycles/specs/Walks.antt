@@ -1,5 +1,5 @@
 -- What the walk through the arcs finds. Assumes nothing.
-use Rattle.std.specs.Prelude.{◌≡◌, ℕ, suc, Bool, true, false, List, [], ◌∷◌, slice_index_or}
+use Rattle.std.specs.Prelude.{◌≡◌, ℕ, Bool, true, false, List, slice_index_or}
 use Rattle.vetoes.specs.Verdicts.{ticked}
 use Rattle.cycles.specs.declared.arc.Arc.{Arc}
 use Rattle.cycles.specs.declared.walk.Outcome.{Outcome}

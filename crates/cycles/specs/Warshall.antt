@@ -1,17 +1,15 @@
 -- The test for a closed chain decides that there is one: signals are let in one after the other. Assumes nothing.
-use Rattle.std.specs.Prelude.{◌≡◌, ℕ, zero, suc, ◌<◌, ◌≤◌, Bool, true, false, ◌&&◌, ◌||◌, eqb, ◌⊎◌, List, [], ◌∷◌, length, get_or, Decides}
+use Rattle.std.specs.Prelude.{◌≡◌, ℕ, zero, suc, ◌≤◌, true, false, List, Decides}
 use Rattle.std.proofs.Math.Path.{refl}
-use Rattle.std.proofs.Common.{sym, ap, subst, ◌∙◌, inl, inr}
+use Rattle.std.proofs.Common.{sym, subst}
 use Rattle.std.proofs.Math.Logic.{⊎_elim}
 use native.Mathlib.Omega.{arith}
-use Rattle.std.specs.List.{HoldsAt}
 use Rattle.std.proofs.lemmas.List.{get_or_default}
 use Rattle.std.proofs.lemmas.Bool.{both_ways, cases_eq, cases_Bool, or_left, or_right, or_cases, and_from, and_parts}
 use Rattle.std.proofs.lemmas.Bool.Decides.{Decides-like, Decides-and, Decides-eqb, Decides-by_or, same_from_decides}
-use Rattle.assignments.specs.Assignments.{at, atom, Part}
+use Rattle.assignments.specs.Assignments.{atom, Part}
 use Rattle.assignments.specs.Limits.{atom_limit}
 use Rattle.vetoes.specs.Meaning.{Lawful}
-use Rattle.vetoes.specs.Counted.{highest_of}
 use Rattle.vetoes.proofs.Highest.{highest_few}
 use Rattle.cycles.specs.declared.arc.Arc.{Arc}
 use Rattle.cycles.specs.Limits.{signal_limit}

@@ -1,4 +1,6 @@
 // The calls of a session and their answers as values, and the law that binds every list of them (specs/).
+#![tactic(auto)]
+
 use assignments::Literal;
 use refusals::Refusal;
 

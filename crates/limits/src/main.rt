@@ -1,4 +1,6 @@
 // Tries each limit of the tables at its edge: what passes, and what one more is refused with.
+#![tactic(auto)]
+
 use assignments::Literal;
 use clauses::book::ClauseBook;
 use clauses::stretch::Counts;

@@ -1,5 +1,5 @@
 -- What the rows with true atoms come to, and when that is over the limit. Assumes nothing.
-use Rattle.std.specs.Prelude.{ℕ, Bool, true, false, cond, List, [], ◌∷◌, nat_le}
+use Rattle.std.specs.Prelude.{ℕ, Bool, false, cond, List, [], ◌∷◌, nat_le}
 use Rattle.assignments.specs.Limits.{atom_limit}
 use Rattle.vetoes.specs.Counted.{highest_of, live}
 use Rattle.vetoes.specs.Meaning.{Meaning}

@@ -1,11 +1,9 @@
 -- The first literals of a clause and the first clauses of a list, one more at a time. Assumes nothing.
-use Rattle.std.proofs.Common.{◌≡◌, ℕ, zero, suc, ◌+◌, ◌<◌, ◌≤◌, Bool, true, false, ◌&&◌, ◌||◌, List, [], ◌∷◌, ◌++◌, length, get_or, take, ℤ, pos, sym, refl, ap, ◌∙◌, subst, le_of_suc-le-suc, not-suc-le-zero, arith}
+use Rattle.std.proofs.Common.{◌≡◌, ℕ, zero, suc, ◌+◌, ◌<◌, Bool, true, false, ◌&&◌, ◌||◌, List, [], ◌∷◌, ◌++◌, length, get_or, take, ℤ, pos, sym, ap, ◌∙◌, le_of_suc-le-suc, not-suc-le-zero, arith}
 use Rattle.std.proofs.lemmas.List.{take_more}
-use Rattle.std.proofs.lemmas.Bool.{or_left, or_right, or_from, or_cases, and_from, and_parts}
+use Rattle.std.proofs.lemmas.Bool.{or_left, or_right, and_from, and_parts}
 use Rattle.std.proofs.lemmas.Bool.Decides.{nat_tests}
-use Rattle.assignments.specs.Assignments.{at}
 use Rattle.assignments.specs.Literals.{true_at, met, all_met}
-use Rattle.propagation.specs.Extensions.{Extends}
 use Rattle.propagation.specs.States.{Refuted, Left, Filled}
 
 met_append : (q : List ℕ) (c : List ℤ) (l : ℤ) → met q (c ++ (l ∷ [])) ≡ (met q c || true_at q l)

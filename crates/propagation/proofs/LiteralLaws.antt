@@ -1,11 +1,10 @@
 -- A literal by its place and the value that it wants, and what a look at it tells. Assumes nothing.
-use Rattle.std.proofs.Common.{◌≡◌, ℕ, zero, suc, ◌-◌, ◌<◌, ◌≤◌, min, Bool, true, false, eqb, ◌⊎◌, List, length, get_or, ℤ, pos, negsuc, nat_abs, sym, refl, ap, ◌∙◌, subst, inl, inr, ⊎_elim, arith}
+use Rattle.std.proofs.Common.{◌≡◌, ℕ, zero, suc, ◌-◌, ◌<◌, ◌≤◌, true, eqb, ◌⊎◌, List, length, ℤ, pos, negsuc, nat_abs, sym, refl, ap, ◌∙◌, subst, inl, inr, ⊎_elim, arith}
 use Rattle.std.proofs.lemmas.Bool.{eq-eqb, ne_eqb, eqb-true}
 use Rattle.assignments.specs.Assignments.{at}
 use Rattle.assignments.specs.Literals.{true_at}
 use Rattle.assignments.proofs.ByteLaws.{at_within}
 use Rattle.assignments.proofs.ClauseLaws.{true_none}
-use Rattle.propagation.specs.Extensions.{Extends}
 use Rattle.propagation.specs.Literals.{place, wanted}
 use Rattle.propagation.specs.States.{Refuted, Left}
 

@@ -1,5 +1,7 @@
 // Random lists of calls on sessions over each kind of veto: every answer, and every byte of every buffer, is compared with a plain
 // model that tries all assignments. A list ends at its first mismatch, and the program then ends with an error.
+#![tactic(auto)]
+
 mod calls;
 mod drawing;
 mod model;

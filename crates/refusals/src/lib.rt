@@ -1,4 +1,6 @@
 // Why a call or a text is refused: the refusals in their order, each with its number and its text.
+#![tactic(auto)]
+
 ghost use Rattle.std.specs.Prelude.{◌≡◌};
 ghost use Rattle.refusals.specs.Refusals.{number_of, text_of, outside};
 

@@ -6,13 +6,11 @@ use Rattle.ledgers.specs.Ledger.{Call as Called, Answer, handed_out, no_more, ch
 use Rattle.ledgers.specs.Right.{buffers}
 use Rattle.session.specs.declared.table.SessionTable.{SessionTable}
 use Rattle.session.specs.declared.table.Step.{Step}
-use Rattle.session.specs.declared.table.Step.TheVariants as Step
 use Rattle.session.specs.declared.table.Wish.{Wish}
-use Rattle.session.specs.declared.table.Wish.TheVariants as Wish
 use Rattle.session.specs.Standing.{Keeps, done, next_answer, ask_answer}
 use Rattle.runs.specs.declared.turn.Call.{Call}
 use Rattle.runs.specs.declared.turn.Reply.{Reply}
-use Rattle.runs.specs.Histories.{called, buffer, answer, done_reply, next_reply, ask_reply}
+use Rattle.runs.specs.Histories.{called, answer, done_reply, next_reply, ask_reply}
 
 -- the call c₀ was made, and its buffers are those of c now; r is its reply
 module _ {m : Meaning} {t t' : SessionTable} {b : Called} (c₀ c : Call) (r : Reply) (same : b ≡ called c₀) where

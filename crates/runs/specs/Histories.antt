@@ -4,9 +4,7 @@ use Rattle.refusals.specs.declared.Refusal.{Refusal}
 use Rattle.ledgers.specs.Ledger.{Call as Called, size, clause, open_scope, close_scope, rewind, next, ask, Answer, accepted, handed_out, no_more, chosen, clash, refused, Event}
 use Rattle.ledgers.specs.Right.{buffers}
 use Rattle.session.specs.declared.table.Step.{Step}
-use Rattle.session.specs.declared.table.Step.TheVariants as Step
 use Rattle.session.specs.declared.table.Wish.{Wish}
-use Rattle.session.specs.declared.table.Wish.TheVariants as Wish
 use Rattle.runs.specs.declared.turn.Call.{Call}
 use Rattle.runs.specs.declared.turn.Call.TheVariants.{Size, Clause, Open, Close, Rewind, Next, Ask}
 use Rattle.runs.specs.declared.turn.Reply.{Reply}

@@ -1,4 +1,6 @@
 // The search on worked cases: what it finds, what it answers where nothing is left, and what it refuses.
+#![tactic(auto)]
+
 use assignments::orders::is_part;
 use assignments::{ATOM_LIMIT, Literal};
 use clauses::book::ClauseBook;

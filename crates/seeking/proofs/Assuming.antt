@@ -1,5 +1,5 @@
 -- The chosen literals of a list, taken in one after the other. Assumes nothing.
-use Rattle.std.proofs.Common.{◌≡◌, ℕ, ◌+◌, ◌<◌, ◌≤◌, min, Bool, true, false, eqb, ◌⊎◌, List, length, get_or, set, ℤ, pos, nat_abs, sym, refl, ap, ◌∙◌, subst, inl, inr, ⊎_elim, arith, length-set}
+use Rattle.std.proofs.Common.{◌≡◌, ℕ, ◌+◌, ◌<◌, ◌≤◌, Bool, true, false, eqb, ◌⊎◌, List, length, get_or, set, ℤ, pos, nat_abs, sym, ap, ◌∙◌, subst, inl, inr, ⊎_elim, arith, length-set}
 use Rattle.std.proofs.lemmas.Bool.{cases_eq, eq-eqb, eqb-true}
 use borrow.Author.Tests.{clash}
 use Rattle.std.proofs.lemmas.List.{get_or_past}
@@ -9,7 +9,6 @@ use Rattle.assignments.proofs.ByteLaws.{at_set_same, at_set_other}
 use Rattle.assignments.proofs.ClauseLaws.{true_none}
 use Rattle.propagation.specs.Literals.{place, wanted}
 use Rattle.propagation.proofs.LiteralLaws.{Real, true_is, wanted_bit}
-use Rattle.ledgers.specs.Admitted.{LeastOf}
 use Rattle.seeking.specs.Seeking.{Sought, Fits}
 use Rattle.seeking.specs.Including.{chosen, Chosen, Stands, Including}
 

@@ -1,10 +1,10 @@
 -- Ticked assumptions that clash, with one after the other left out. Assumes nothing.
-use Rattle.std.proofs.Common.{◌≡◌, ℕ, ◌+◌, ◌<◌, ◌≤◌, Bool, true, false, eqb, ◌⊎◌, List, length, get_or, set, ℤ, pos, Some, None, Option, sym, refl, ap, ◌∙◌, subst, inl, inr, ⊎_elim, arith, length-set, get_or-set_other, get_or-set_same}
+use Rattle.std.proofs.Common.{◌≡◌, ℕ, ◌+◌, ◌<◌, ◌≤◌, Bool, true, false, eqb, List, length, get_or, set, ℤ, Some, None, Option, sym, refl, ap, ◌∙◌, subst, ⊎_elim, arith, length-set, get_or-set_other, get_or-set_same}
 use Rattle.std.proofs.lemmas.Bool.{cases_eq, eq-eqb, eqb-true}
 use Rattle.assignments.specs.Assignments.{Complete}
 use Rattle.search.specs.Completions.{Allowed}
 use Rattle.ledgers.specs.Admitted.{IncludesTicked}
-use Rattle.seeking.specs.Including.{chosen, Chosen, Including, AllTicked, Core}
+use Rattle.seeking.specs.Including.{Including, AllTicked, Core}
 
 abbrev IsSome : Option ℕ → Type 0
 IsSome None = ⊥

@@ -1,14 +1,13 @@
 -- The calls that hand nothing out, at a table that stands for a ledger. Assumes nothing.
-use Rattle.std.proofs.Common.{◌≡◌, ℕ, zero, suc, ◌+◌, ◌-◌, ◌<◌, ◌≤◌, Bool, true, false, cond, ltb, List, [], ◌∷◌, ◌++◌, length, get_or, take, set, ℤ, is_ok, Some, None, Ok, Err, Option, Result, sym, refl, ap, ◌∙◌, subst, arith}
+use Rattle.std.proofs.Common.{◌≡◌, ℕ, zero, suc, ◌<◌, Bool, true, cond, List, [], ◌∷◌, ◌++◌, length, get_or, take, set, ℤ, is_ok, Some, None, Ok, Err, Result, sym, refl, ap, ◌∙◌, subst, arith}
 use Rattle.std.specs.Result.{result_err}
-use Rattle.std.proofs.lemmas.Bool.{cond-true, cond-false, lt-ltb}
+use Rattle.std.proofs.lemmas.Bool.{cond-true, lt-ltb}
 use Rattle.refusals.specs.declared.Refusal.{Refusal}
-use Rattle.refusals.specs.declared.Refusal.TheVariants.{ScopeTableFull}
 use Rattle.clauses.specs.declared.stretch.Counts.{Counts}
 use Rattle.clauses.specs.Books.{atoms_of, clauses_of}
 use Rattle.clauses.specs.Adding.{is_front, literal_count, refusal_of_adding}
 use Rattle.vetoes.specs.Meaning.{Meaning}
-use Rattle.ledgers.specs.Ledger.{Ledger, Call, clause, open_scope, close_scope, Answer, accepted, refused, holding, closed, advance}
+use Rattle.ledgers.specs.Ledger.{Ledger, Call, clause, open_scope, close_scope, Answer, accepted, refused, closed}
 use Rattle.ledgers.specs.Right.{Right, RightBy, Answers, due, due_at, buffers, scope_limit, unless_none}
 use Rattle.session.specs.declared.table.Place.TheVariants.{BeforeFirst}
 use Rattle.session.specs.declared.table.SessionTable.{SessionTable}

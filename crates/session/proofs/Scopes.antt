@@ -1,7 +1,7 @@
 -- The records of the open scopes, and the fronts of the held clauses that they tell. Assumes nothing.
-use Rattle.std.proofs.Common.{◌≡◌, ℕ, zero, suc, ◌<◌, ◌≤◌, Bool, true, false, ◌&&◌, eqb, leb, List, [], ◌∷◌, ◌++◌, length, get_or, take, set, ℤ, sym, refl, ap, ◌∙◌, subst, arith, length-append, take_all, get_or-set_other, get_or-set_same}
+use Rattle.std.proofs.Common.{◌≡◌, ℕ, zero, suc, ◌<◌, ◌≤◌, true, eqb, List, [], ◌∷◌, ◌++◌, length, get_or, take, set, ℤ, sym, refl, ap, ◌∙◌, subst, arith, length-append, take_all, get_or-set_other, get_or-set_same}
 use lib.Seq.{take-append-le}
-use Rattle.std.proofs.lemmas.Bool.{and_parts, and_from, leb-true, le-leb, eqb-true, eq-eqb}
+use Rattle.std.proofs.lemmas.Bool.{and_parts, and_from, leb-true, le-leb, eq-eqb}
 use Rattle.clauses.specs.declared.stretch.Counts.{Counts}
 use Rattle.clauses.specs.Adding.{is_front, literal_count}
 use Rattle.session.specs.Standing.{no_counts, openings, Nested}

@@ -1,5 +1,5 @@
 -- When a session's table stands for a ledger, and what a call owes then. Assumes nothing.
-use Rattle.std.specs.Prelude.{◌≡◌, ℕ, zero, suc, Bool, true, false, cond, List, [], ◌∷◌, length, take, ℤ, Some, None, Ok, Err, Option, Result, slice_index_or}
+use Rattle.std.specs.Prelude.{◌≡◌, ℕ, zero, suc, true, cond, List, [], ◌∷◌, take, ℤ, Some, None, Ok, Err, Option, Result, slice_index_or}
 use Rattle.refusals.specs.declared.Refusal.{Refusal}
 use Rattle.assignments.specs.Assignments.{Complete}
 use Rattle.clauses.specs.declared.stretch.Counts.{Counts}

@@ -1,4 +1,5 @@
 // A session over one veto: its seven calls, and any list of them on a fresh session.
+#![tactic(auto)]
 
 pub mod handing;
 pub mod seek;

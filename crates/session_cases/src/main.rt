@@ -1,4 +1,6 @@
 // Sessions on worked cases: each call with its answer, and every byte of its buffers.
+#![tactic(auto)]
+
 use assignments::Literal;
 use cycles::arc::Arc;
 use cycles::cycle::Cycle;

@@ -1,4 +1,6 @@
 // A table of at most N items in fixed memory, known by the list of its items.
+#![tactic(auto)]
+
 ghost use Rattle.std.specs.Prelude.{◌≡◌, ◌≤◌, length};
 
 mod ops;

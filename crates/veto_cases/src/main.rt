@@ -1,4 +1,6 @@
 // Worked cases of the vetoes: what each says at an assignment, and which atoms it ticks.
+#![tactic(auto)]
+
 use assignments::values::{Value, read_value};
 use cycles::arc::Arc;
 use cycles::cycle::Cycle;

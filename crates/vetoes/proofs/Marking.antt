@@ -1,12 +1,10 @@
 -- Marks, ticks, and the part of an assignment that ticks leave. Assumes nothing.
-use Rattle.std.proofs.Common.{◌≡◌, ℕ, zero, suc, ◌+◌, ◌-◌, ◌<◌, ◌≤◌, min, Bool, true, false, cond, eqb, ◌⊎◌, List, [], ◌∷◌, length, get_or, set, replicate, Ok, Err, Result, sym, refl, ap, ◌∙◌, subst, inl, inr, ⊎_elim, le_of_suc-le-suc, not-suc-le-zero, arith, length-set, get_or-set_other, get_or-set_same}
-use Rattle.std.proofs.lemmas.List.{get_or_past, get_or_default}
-use Rattle.std.proofs.lemmas.Bool.{cases_eq, cases_lt, both_ways, eq-eqb, ne_eqb, cond-true, cond-false}
-use Rattle.std.proofs.lemmas.Bool.Decides.{nat_tests}
+use Rattle.std.proofs.Common.{◌≡◌, ℕ, zero, suc, ◌+◌, ◌-◌, ◌<◌, ◌≤◌, min, Bool, true, false, cond, eqb, List, [], ◌∷◌, length, get_or, set, replicate, Ok, Err, Result, sym, refl, ap, ◌∙◌, subst, ⊎_elim, arith, length-set, get_or-set_other, get_or-set_same}
+use Rattle.std.proofs.lemmas.List.{get_or_past}
+use Rattle.std.proofs.lemmas.Bool.{cases_eq, cases_lt, eq-eqb, ne_eqb, cond-true, cond-false}
 use Rattle.refusals.specs.declared.Refusal.{Refusal}
 use Rattle.assignments.specs.Assignments.{at, atom, Part}
 use Rattle.assignments.specs.Limits.{atom_limit}
-use Rattle.assignments.proofs.ByteLaws.{at_within}
 use Rattle.vetoes.specs.declared.veto.Verdict.{Verdict}
 use Rattle.vetoes.specs.declared.veto.Verdict.TheVariants.{Speaks, Silent}
 use Rattle.vetoes.specs.Verdicts.{Examined, Ticks, TicksOf, ticked, Reason}

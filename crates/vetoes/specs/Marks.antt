@@ -1,5 +1,5 @@
 -- Marks for a reason, and how they become ticks. Assumes nothing.
-use Rattle.std.specs.Prelude.{◌≡◌, ℕ, ◌<◌, ◌≤◌, Bool, true, false, List, length, Ok, Err, Result, slice_index}
+use Rattle.std.specs.Prelude.{◌≡◌, ℕ, ◌<◌, ◌≤◌, Bool, List, length, Ok, Err, Result, slice_index}
 use Rattle.refusals.specs.declared.Refusal.{Refusal}
 use Rattle.assignments.specs.Assignments.{at}
 use Rattle.assignments.specs.Limits.{atom_limit}

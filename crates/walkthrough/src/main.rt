@@ -1,4 +1,6 @@
 // Takes one order from its clauses to the assignments that may be burned, and prints each action.
+#![tactic(auto)]
+
 use assignments::{AtomNumber, Literal};
 use clauses::book::ClauseBook;
 use loads::kind::Milliamperes;

@@ -1,4 +1,4 @@
-use Rattle.std.proofs.Common.{inl, inr, ⊎_elim, arith}
+use Rattle.std.proofs.Common.{inl, inr, ⊎_elim}
 use Rattle.std.proofs.lemmas.Int.{to_z-of_z}
 use Rattle.assignments.proofs.ClauseLaws.{true_none, true_plain, true_negated}
 use Rattle.assignments.proofs.literals.is_true.Goals as goal

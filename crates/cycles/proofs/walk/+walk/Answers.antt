@@ -1,10 +1,7 @@
-use Rattle.std.proofs.Common.{◌≡◌, ℕ, ◌<◌, ◌≤◌, true, false, length, get_or, set, sym, refl, ap, ◌∙◌, subst, ⊎_elim, arith, rules, below_more}
-use Rattle.std.proofs.lemmas.Bool.{both_ways, eqb-true, eqb-false}
-use Rattle.assignments.specs.Assignments.{atom}
-use Rattle.cycles.specs.Arcs.{counted_arc}
+use Rattle.std.proofs.Common.{◌≡◌, ◌<◌, true, false, length, get_or, set, sym, ap, ◌∙◌, subst, arith, rules, below_more}
+use Rattle.std.proofs.lemmas.Bool.{eqb-true, eqb-false}
 use Rattle.cycles.specs.Graphs.{no_arc, last}
 use Rattle.cycles.specs.Walks.{Ends}
-use Rattle.cycles.specs.ChainLaws.{Live}
 use Rattle.cycles.proofs.WalkLaws.{free, free_falls, restored, one_done, all_end, live_here, marks_here, edge_marked, chain_marked, closes_here}
 use Rattle.cycles.proofs.walk.+walk.Goals as goal
 
@@ -36,8 +33,7 @@ walk-requires t c =
     let on = c.args.on.now in
     let live = live_here xs p k c.loop-arc-test.true c.args.at c.if-arc-at.false (eqb-true _ _ (sym c.if-not-is_live.ensures)) in
     let within : c.args.at < length on = search rules in
-    let fall : free c.loop-arc.on < free on = subst (λ l. free l < free on) (sym c.loop-arc.invariant.0) (free_falls on c.args.at within c.requires.fresh) in
-    (
+    let fall : free c.loop-arc.on < free on = subst (λ l. free l < free on) (sym c.loop-arc.invariant.0) (free_falls on c.args.at within c.requires.fresh) in (
       omega (arith, c.decreases),
       (
         (search rules, (search rules, omega (arith, live.to_high))),

@@ -1,4 +1,4 @@
-use Rattle.std.proofs.Common.{◌≡◌, ℕ, ◌<◌, true, length, get_or, set}
+use Rattle.std.proofs.Common.{◌≡◌, ℕ, ◌<◌, get_or}
 use Rattle.vetoes.specs.Marks.{Marks}
 use Rattle.assignments.specs.Assignments.{atom}
 use Rattle.cycles.specs.Arcs.{counted_arc}

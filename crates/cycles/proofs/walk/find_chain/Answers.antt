@@ -1,4 +1,4 @@
-use Rattle.std.proofs.Common.{◌≡◌, true, false, sym, refl, arith}
+use Rattle.std.proofs.Common.{false, refl, arith}
 use Rattle.std.proofs.lemmas.Bool.{both_ways}
 use Rattle.vetoes.proofs.Marking.{ticked_part}
 use Rattle.cycles.specs.Warshall.{is_cyclic, not_cyclic}

@@ -1,4 +1,4 @@
-use Rattle.std.proofs.Common.{◌≡◌, ℕ, ◌<◌, ◌≤◌, true, false, length, get_or}
+use Rattle.std.proofs.Common.{◌≡◌, ℕ, ◌<◌, ◌≤◌, false, length, get_or}
 use Rattle.vetoes.specs.Marks.{Marks}
 use Rattle.cycles.specs.Limits.{places}
 use Rattle.cycles.specs.Walks.{Ends, Done}

@@ -1,4 +1,4 @@
-use Rattle.std.proofs.Common.{◌≡◌, true, length, take, sym, refl, ap, ◌∙◌, subst, take_all}
+use Rattle.std.proofs.Common.{◌≡◌, true, take, sym, refl, subst, take_all}
 use Rattle.loads.specs.Rows.{total}
 use Rattle.loads.specs.Sums.{is_on, counted, skipped, marked_skip, marked_one, marks_on, marked_over}
 use Rattle.loads.proofs.total.explain.Goals as goal

@@ -1,4 +1,4 @@
-use Rattle.std.proofs.Common.{◌≡◌, [], length, get_or, sym, subst, arith}
+use Rattle.std.proofs.Common.{[], length, sym, subst, arith}
 use Rattle.std.proofs.lemmas.List.{get_or_past}
 use Rattle.clauses.specs.Books.{clauses_of}
 use Rattle.propagation.specs.Ticking.{Adds, Named}

@@ -1,7 +1,7 @@
-use Rattle.std.proofs.Common.{◌≡◌, ℕ, ◌-◌, ◌<◌, ◌≤◌, length, get_or, ℤ, pos, nat_abs, sym, refl, ap, ◌∙◌, subst, inl, inr, ⊎_elim, arith, w16, SFits, rules}
+use Rattle.std.proofs.Common.{◌≡◌, ◌-◌, ◌<◌, get_or, pos, nat_abs, sym, subst, inl, inr, ⊎_elim, arith, w16, SFits, rules}
 use Rattle.std.proofs.lemmas.Int.{to_z-of_z}
 use Rattle.assignments.specs.Assignments.{at}
-use Rattle.assignments.proofs.ByteLaws.{at_read, at_within}
+use Rattle.assignments.proofs.ByteLaws.{at_read}
 use Rattle.propagation.specs.Literals.{place}
 use Rattle.propagation.proofs.LiteralLaws.{real_atom, place_atom, out_of_range}
 use Rattle.propagation.proofs.TickSteps.{named_skip, named_tick}

@@ -1,9 +1,9 @@
-use Rattle.std.proofs.Common.{◌≡◌, ◌-◌, ◌<◌, length, nat_abs, sym, refl, ap, ◌∙◌, subst, inl, inr, ⊎_elim, arith, w16, to_z, of_z, rules}
+use Rattle.std.proofs.Common.{◌≡◌, ◌-◌, ◌<◌, length, nat_abs, ap, ◌∙◌, inl, inr, ⊎_elim, arith, w16, to_z, of_z, rules}
 use Rattle.std.proofs.lemmas.Int.{to_z-of_z}
 use Rattle.assignments.specs.Assignments.{at}
 use Rattle.assignments.proofs.ByteLaws.{at_read}
-use Rattle.propagation.specs.Literals.{place, wanted}
-use Rattle.propagation.proofs.LiteralLaws.{wanted_bit, real_atom, place_atom, look_none, look_open, look_holds, look_fails, look_frozen}
+use Rattle.propagation.specs.Literals.{wanted}
+use Rattle.propagation.proofs.LiteralLaws.{real_atom, place_atom, look_none, look_open, look_holds, look_fails, look_frozen}
 use Rattle.propagation.proofs.literal.look_at.Goals as goal
 
 pub returns-then-atom-eq0 : goal.returns-then-atom-eq0

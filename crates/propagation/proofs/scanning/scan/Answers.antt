@@ -1,4 +1,4 @@
-use Rattle.std.proofs.Common.{◌≡◌, true, [], length, get_or, take, ap, ◌∙◌, subst, arith, take_all}
+use Rattle.std.proofs.Common.{◌≡◌, true, subst, arith, take_all}
 use Rattle.assignments.specs.Literals.{met, all_met}
 use Rattle.clauses.specs.Books.{clauses_of}
 use Rattle.propagation.proofs.ClauseSteps.{all_more}

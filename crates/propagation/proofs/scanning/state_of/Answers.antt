@@ -1,7 +1,7 @@
-use Rattle.std.proofs.Common.{◌≡◌, ℕ, ◌<◌, length, get_or, take, pos, sym, refl, ap, ◌∙◌, subst, take_all, w16, to_z, of_z, rules}
+use Rattle.std.proofs.Common.{◌≡◌, get_or, take, pos, subst, take_all, w16, to_z, of_z, rules}
 use Rattle.assignments.specs.Literals.{met}
 use Rattle.propagation.specs.States.{Left, Refuted}
-use Rattle.propagation.proofs.ClauseSteps.{SoFar, sofar_fails, sofar_open, met_at, open_never}
+use Rattle.propagation.proofs.ClauseSteps.{SoFar, sofar_fails, sofar_open, met_at}
 use Rattle.propagation.proofs.scanning.state_of.Goals as goal
 
 pub returns-in-Holds : goal.returns-in-Holds

@@ -1,9 +1,9 @@
-use Rattle.std.proofs.Common.{◌≡◌, ◌<◌, length, get_or, sym, refl, ap, ◌∙◌, subst, arith, rules}
+use Rattle.std.proofs.Common.{◌≡◌, ◌<◌, length, get_or, refl, ap, ◌∙◌, subst, rules}
 use Rattle.std.proofs.lemmas.List.{get_or_default}
 use Rattle.ledgers.specs.Law.{Lawful}
 use Rattle.session.specs.Standing.{Keeps}
 use Rattle.runs.specs.Histories.{called, asked, answer, no_turn, history}
-use Rattle.runs.proofs.Playing.{Played, played_none, played_more, played_all}
+use Rattle.runs.proofs.Playing.{played_none, played_more, played_all}
 use Rattle.runs.proofs.play.play.Goals as goal
 
 pub loop-i-init : goal.loop-i-init

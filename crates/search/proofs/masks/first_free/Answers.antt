@@ -1,4 +1,4 @@
-use Rattle.std.proofs.Common.{◌≡◌, ℕ, ◌<◌, ⊎_elim, arith, rules}
+use Rattle.std.proofs.Common.{◌≡◌, ⊎_elim, arith, rules}
 use Rattle.std.proofs.lemmas.Bool.{cases_eq}
 use Rattle.assignments.proofs.ByteLaws.{at_read}
 use Rattle.search.proofs.masks.first_free.Goals as goal

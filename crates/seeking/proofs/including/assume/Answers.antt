@@ -1,11 +1,10 @@
-use Rattle.std.proofs.Common.{◌≡◌, ℕ, ◌-◌, ◌<◌, ◌≤◌, Bool, true, false, length, get_or, ℤ, pos, nat_abs, sym, refl, ap, ◌∙◌, subst, inl, inr, ⊎_elim, arith, w16, SFits, rules}
+use Rattle.std.proofs.Common.{◌≡◌, ◌-◌, ◌<◌, true, false, length, get_or, pos, nat_abs, inl, inr, ⊎_elim, arith, w16, SFits, rules}
 use Rattle.std.proofs.lemmas.Int.{to_z-of_z}
-use Rattle.assignments.specs.Assignments.{at}
 use Rattle.assignments.proofs.ByteLaws.{at_read}
 use Rattle.propagation.specs.Literals.{place, wanted}
 use Rattle.propagation.proofs.LiteralLaws.{real_atom, place_atom}
 use Rattle.seeking.specs.Including.{chosen}
-use Rattle.seeking.proofs.Assuming.{stands_none, stands_skip, stands_same, stands_set, stands_all, none_named, none_differs, at_length}
+use Rattle.seeking.proofs.Assuming.{stands_skip, stands_same, stands_set, stands_all, none_named, none_differs, at_length}
 use Rattle.seeking.proofs.including.assume.Goals as goal
 
 pub loop-index-preserved-then-not-is_chosen : goal.loop-index-preserved-then-not-is_chosen

@@ -1,5 +1,4 @@
-use Rattle.std.proofs.Common.{◌≡◌, ℕ, ◌<◌, ◌≤◌, Bool, true, false, length, sym, refl, ap, ◌∙◌, subst, arith, rules}
-use Rattle.seeking.specs.Seeking.{Sought, Fits}
+use Rattle.std.proofs.Common.{◌≡◌, length, arith, rules}
 use Rattle.seeking.proofs.Assuming.{including_sought_at}
 use Rattle.seeking.proofs.including.seek_including.Goals as goal
 

@@ -1,6 +1,6 @@
-use Rattle.std.proofs.Common.{◌≡◌, ℕ, ◌<◌, ◌≤◌, Bool, true, false, List, length, get_or, set, sym, refl, ap, ◌∙◌, subst, arith, rules}
+use Rattle.std.proofs.Common.{length, refl, ap, ◌∙◌, arith, rules}
 use Rattle.seeking.proofs.Fitting.{speaks_of}
-use Rattle.seeking.proofs.Shrinking.{Shrunk, shrunk_start, shrunk_left, shrunk_kept, core, including_at, none_including_at}
+use Rattle.seeking.proofs.Shrinking.{shrunk_start, shrunk_left, shrunk_kept, core, including_at, none_including_at}
 use Rattle.seeking.proofs.including.tick_core.Goals as goal
 
 pub returns : goal.returns

@@ -1,4 +1,4 @@
-use Rattle.std.proofs.Common.{◌≡◌, ℕ, ◌<◌, ◌≤◌, length, get_or, ◌∙◌, ⊎_elim, arith, get_or-set_other, get_or-set_same, rules}
+use Rattle.std.proofs.Common.{◌≡◌, ◌∙◌, ⊎_elim, arith, get_or-set_other, get_or-set_same, rules}
 use Rattle.std.proofs.lemmas.Bool.{cases_eq}
 use Rattle.seeking.proofs.including.tick_first.Goals as goal
 

@@ -1,4 +1,4 @@
-use Rattle.std.proofs.Common.{◌≡◌, ◌++◌, sym, refl, ap, ◌∙◌, arith, take_all}
+use Rattle.std.proofs.Common.{◌++◌, sym, refl, ap, ◌∙◌, arith, take_all}
 use Rattle.std.proofs.lemmas.Bool.{le-leb, lt-leb}
 use Rattle.tables.specs.Items.{entries}
 use Rattle.tables.proofs.Fronts.{grown, length_entries}

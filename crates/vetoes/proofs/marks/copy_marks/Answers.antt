@@ -1,4 +1,4 @@
-use Rattle.std.proofs.Common.{◌≡◌, ◌<◌, length, arith, rules}
+use Rattle.std.proofs.Common.{◌<◌, length, rules}
 use Rattle.vetoes.proofs.Marking.{copied_more, copied_rest}
 use Rattle.vetoes.proofs.marks.copy_marks.Goals as goal
 

@@ -1,4 +1,4 @@
-use Rattle.std.proofs.Common.{◌≡◌, length, sym, refl, ap}
+use Rattle.std.proofs.Common.{length, sym, refl, ap}
 use Rattle.clauses.proofs.Fronts.{literals_grow, stretches_grow, still_ranged, still_whole, one_more}
 use Rattle.clauses.proofs.book.ClauseBook.add.Goals as goal
 

@@ -1,4 +1,4 @@
-use Rattle.std.proofs.Common.{◌≡◌, ◌<◌, ◌≤◌, true, false, length, take, sym, refl, ap, ◌∙◌, subst}
+use Rattle.std.proofs.Common.{◌≡◌, true, length, take, sym, refl, ap, ◌∙◌, subst}
 use Rattle.tables.specs.Items.{entries}
 use Rattle.assignments.specs.Literals.{all_in_range}
 use Rattle.clauses.specs.Stretches.{laid, parts}

@@ -1,7 +1,7 @@
-use Rattle.std.proofs.Common.{◌≡◌, ℕ, ◌<◌, true, List, length, sym, refl, ap, ◌∙◌, subst, rules}
+use Rattle.std.proofs.Common.{ℕ, ◌<◌, List, length, sym, refl, ap, ◌∙◌, rules}
 use Rattle.vetoes.specs.Verdicts.{ticked}
 use Rattle.vetoes.proofs.Marking.{explained}
-use Rattle.loads.specs.Rows.{total, exceeds}
+use Rattle.loads.specs.Rows.{exceeds}
 use Rattle.loads.specs.Sums.{exceeds_is}
 use Rattle.loads.proofs.load.LoadVeto.examine.Goals as goal
 

@@ -1,4 +1,4 @@
-use Rattle.std.proofs.Common.{◌≡◌, refl, rules}
+use Rattle.std.proofs.Common.{refl, rules}
 use Rattle.session.proofs.Keeping.{clause_keeps}
 use Rattle.session.proofs.session.Session.clause.Goals as goal
 

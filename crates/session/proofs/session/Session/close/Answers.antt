@@ -1,4 +1,4 @@
-use Rattle.std.proofs.Common.{◌≡◌, ℕ, suc, ◌+◌, ◌-◌, refl, arith, rules}
+use Rattle.std.proofs.Common.{◌-◌, refl, arith, rules}
 use Rattle.session.proofs.Keeping.{close_keeps}
 use Rattle.session.proofs.session.Session.close.Goals as goal
 
