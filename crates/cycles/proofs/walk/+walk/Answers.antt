@@ -1,9 +1,12 @@
-use Rattle.std.proofs.Common.{◌≡◌, ◌<◌, true, false, length, get_or, set, sym, ap, ◌∙◌, subst, arith, rules, below_more}
+use Rattle.std.proofs.Common.{◌≡◌, ◌<◌, true, false, length, get_or, set, sym, refl, ap, ◌∙◌, subst, arith, rules, below_more}
 use Rattle.std.proofs.lemmas.Bool.{eqb-true, eqb-false}
 use Rattle.cycles.specs.Graphs.{no_arc, last}
 use Rattle.cycles.specs.Walks.{Ends}
 use Rattle.cycles.proofs.WalkLaws.{free, free_falls, restored, one_done, all_end, live_here, marks_here, edge_marked, chain_marked, closes_here}
 use Rattle.cycles.proofs.walk.+walk.Goals as goal
+
+pub loop-arc-init : goal.loop-arc-init
+loop-arc-init t c = (refl, search rules, c.requires.sound, c.requires.marked)
 
 pub loop-arc-preserved-then-not-is_live : goal.loop-arc-preserved-then-not-is_live
 loop-arc-preserved-then-not-is_live t c =
