@@ -35,10 +35,7 @@ impl<L: LoadKind, S: Lent<Row<L>>> Load<L, S> {
 impl<L: LoadKind, S: Lent<Row<L>>> Veto for Load<L, S> {
     ghost means = { λ v. load_means L.LoadKind.empty L.LoadKind.join L.LoadKind.over (S.Lent.items v.rows) };
 
-    ghost lawful = { λ v.
-        let m = L.LoadKind in
-        let laws = L.LoadKind in
-        load_lawful m.empty m.join laws.assoc laws.comm m.over laws.stays (S.Lent.items v.rows) };
+    ghost lawful = { λ v. load_lawful L.LoadKind.empty L.LoadKind.join L.LoadKind.assoc L.LoadKind.comm L.LoadKind.over L.LoadKind.stays (S.Lent.items v.rows) };
 
     fn reach(&self) -> usize {
         match self.rows.as_items() {
