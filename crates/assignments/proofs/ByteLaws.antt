@@ -1,8 +1,8 @@
 -- Values read off the bytes of an assignment. Assumes nothing.
-use Rattle.std.proofs.Common.{◌≡◌, ℕ, zero, suc, ◌-◌, ◌<◌, ◌≤◌, min, ◌⊎◌, List, length, get_or, set, sym, refl, ap, ◌∙◌, inl, inr, ⊎_elim, arith, get_or-set_other, get_or-set_same}
+use Rattle.std.proofs.Common.{◌≡◌, ℕ, ◌<◌, ◌≤◌, min, ◌⊎◌, List, length, get_or, set, sym, ap, ◌∙◌, inl, inr, ⊎_elim, arith, get_or-set_other, get_or-set_same}
 use Rattle.std.proofs.lemmas.Bool.{cases_eq, cases_lt}
 use Rattle.std.proofs.lemmas.List.{get_or_default, get_or_past, same_lists}
-use Rattle.assignments.specs.Assignments.{at, atom, Complete}
+use Rattle.assignments.specs.Assignments.{at, Complete}
 
 -- what the code reads at a place within the assignment
 pub at_read : (p : List ℕ) (i : ℕ) → i < length p → at p i ≡ min (get_or p i 0) 2
@@ -23,18 +23,6 @@ at_set_same p i v h = ap (λ x. min x 2) (get_or-set_same p i v 2 h)
 
 pub at_set_other : (p : List ℕ) (i j v : ℕ) → (j ≡ i → ⊥) → at (set p i v) j ≡ at p j
 at_set_other p i j v h = ap (λ x. min x 2) (get_or-set_other p i j v 2 h)
-
--- an atom by its number
-pub atom_none : (p : List ℕ) (a : ℕ) → (a ≡ 0) ⊎ (length p < a) → atom p a ≡ 2
-atom_none p zero w = refl
-atom_none p (suc i) (inl e) = absurd (omega arith)
-atom_none p (suc i) (inr h) = at_past p i (omega arith)
-
-pub atom_read : (p : List ℕ) (a : ℕ) → (a ≡ 0 → ⊥) → a ≤ length p → atom p a ≡ min (get_or p (a - 1) 0) 2
-atom_read p zero n h = absurd (n refl)
-atom_read p (suc i) n h =
-    let e : suc i - 1 ≡ i = omega arith in
-    at_read p i (omega arith) ∙ ap (λ k. min (get_or p k 0) 2) (sym e)
 
 -- a complete assignment is its values
 pub same_values : (n : ℕ) (p q : List ℕ) → Complete n p → Complete n q → ((i : ℕ) → i < n → at p i ≡ at q i) → p ≡ q

@@ -1,4 +1,3 @@
 pub mod ByteLaws
 pub mod OrderLaws
 pub mod ClauseLaws
-pub mod Deciding

@@ -1,30 +1,9 @@
--- The laws of the two orders, and what a loop that decides one of them finds. Assumes nothing.
-use Rattle.std.proofs.Common.{◌≡◌, ℕ, zero, suc, ◌<◌, ◌≤◌, Bool, ◌⊎◌, List, length, Decides, sym, refl, ◌∙◌, subst, inl, inr, ⊎_elim, arith}
-use Rattle.std.proofs.lemmas.Bool.Decides.{Decides-like}
+-- The law of the order on complete assignments. Assumes nothing.
+use Rattle.std.proofs.Common.{◌≡◌, ℕ, zero, suc, ◌<◌, ◌≤◌, ◌⊎◌, List, sym, ◌∙◌, inl, inr, ⊎_elim, arith}
 use Rattle.std.proofs.lemmas.Bool.{cases_eq, cases_lt}
-use Rattle.assignments.specs.Assignments.{at, Part, Complete, Less}
-use Rattle.assignments.specs.Laws.{PrecisionOrder, StrictTotalOrder}
-use Rattle.assignments.proofs.ByteLaws.{at_within, same_values}
-
-pub part_refl : (p : List ℕ) → Part p p
-part_refl p = record { keeps = λ i k. refl }
-
-pub part_trans : (p q r : List ℕ) → Part p q → Part q r → Part p r
-part_trans p q r a b = record {
-  keeps = λ i k.
-      let e = a.keeps i k in
-      let f = b.keeps i (omega arith) in
-      f ∙ e;
-}
-
-pub part_antisym : (p q : List ℕ) → Part p q → Part q p → (i : ℕ) → at p i ≡ at q i
-part_antisym p q a b i = ⊎_elim
-    (λ (k : at p i < 2). sym (a.keeps i k))
-    (λ (u : 2 ≤ at p i). ⊎_elim (λ (k : at q i < 2). b.keeps i k) (λ (w : 2 ≤ at q i). omega arith) (cases_lt (at q i) 2))
-    (cases_lt (at p i) 2)
-
-pub precision_order : PrecisionOrder
-precision_order = record { reflexive = part_refl; transitive = part_trans; antisymmetric = part_antisym }
+use Rattle.assignments.specs.Assignments.{at, Complete, Less}
+use Rattle.assignments.specs.Laws.{StrictTotalOrder}
+use Rattle.assignments.proofs.ByteLaws.{same_values}
 
 pub less_irrefl : (p : List ℕ) → Less p p → ⊥
 less_irrefl p l = omega (arith, l.low, l.high)
@@ -69,26 +48,3 @@ less_total n p q fp fq = ⊎_elim
 
 pub strict_total_order : StrictTotalOrder
 strict_total_order = record { irreflexive = less_irrefl; transitive = less_trans; total = less_total }
-
--- two assignments that agree below i and differ there: the values at i decide
-pub less_here : (p q : List ℕ) (i : ℕ) → ((k : ℕ) → k < i → at p k ≡ at q k) → (at p i ≡ at q i → ⊥) → Less p q → (at p i ≡ 0) × (at q i ≡ 1)
-less_here p q i same ne l = ⊎_elim
-    (λ (h : l.place < i). let e = same l.place h in absurd (omega (arith, l.low, l.high)))
-    (λ (h : i ≤ l.place). ⊎_elim
-    (λ (e : l.place ≡ i). (subst (λ k. at p k ≡ 0) e l.low, subst (λ k. at q k ≡ 1) e l.high))
-    (λ (e : l.place ≡ i → ⊥). absurd (ne (l.same i (omega arith))))
-    (cases_eq l.place i))
-    (cases_lt l.place i)
-
--- l and r are the values at i
-pub less_decided : (p q : List ℕ) (i l r : ℕ) → l ≡ at p i → r ≡ at q i → ((k : ℕ) → k < i → at p k ≡ at q k) → (l ≡ r → ⊥) → (b : Bool) → Decides b ((l ≡ 0) × (r ≡ 1)) → Decides b (Less p q)
-less_decided p q i l r e f same ne b d = Decides-like b
-    (λ v. record { place = i; same = same; low = sym e ∙ v.0; high = sym f ∙ v.1 })
-    (λ x. let h = less_here p q i same (λ z. ne (e ∙ z ∙ sym f)) x in (e ∙ h.0, f ∙ h.1))
-    d
-
--- two that agree at every byte of the first
-pub less_never : (p q : List ℕ) → ((k : ℕ) → k < length p → at p k ≡ at q k) → Less p q → ⊥
-less_never p q same l =
-    let e = same l.place (at_within p l.place (omega (arith, l.low))) in
-    omega (arith, l.low, l.high)

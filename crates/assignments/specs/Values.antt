@@ -1,9 +1,7 @@
 -- The byte of each value. Assumes nothing.
-use Rattle.std.specs.Prelude.{ℕ}
-use Rattle.assignments.specs.declared.values.Value.{Value}
-use Rattle.assignments.specs.declared.values.Value.TheVariants.{False, True, Unknown}
+use Rattle.std.specs.Prelude.{ℕ, Bool, true, false, Option, Some, None}
 
-abbrev pub byte_of : Value → ℕ
-byte_of False = 0
-byte_of True = 1
-byte_of Unknown = 2
+abbrev pub byte_of : Option Bool → ℕ
+byte_of (Some false) = 0
+byte_of (Some true) = 1
+byte_of None = 2

@@ -5,20 +5,14 @@ ghost use Rattle.assignments.specs.Values.{byte_of};
 
 use crate::AtomNumber;
 
-#[derive(Clone, Copy, PartialEq, Eq, Debug)]
-pub enum Value {
-    False,
-    True,
-    Unknown,
-}
-
-pub fn read_value(byte: u8) -> Value
+// The value that a byte stands for, or None for unknown.
+pub fn read_value(byte: u8) -> Option<bool>
     ensures { byte_of result ≡ min byte 2 }
 {
     match byte {
-        0 => Value::False,
-        1 => Value::True,
-        _ => Value::Unknown,
+        0 => Some(false),
+        1 => Some(true),
+        _ => None,
     }
 }
 
@@ -26,18 +20,15 @@ pub fn read_value(byte: u8) -> Value
 pub fn byte_at(assignment: &[u8], place: usize) -> u8
     ensures { result ≡ at assignment.now place }
 {
-    if place >= assignment.len() {
-        return 2;
-    }
-    assignment[place].min(2)
+    assignment.get(place).map_or(2, |byte| (*byte).min(2))
 }
 
 // Atom 0 stands for no atom, and is unknown.
-pub fn value_at(assignment: &[u8], atom: AtomNumber) -> Value
+pub fn value_at(assignment: &[u8], atom: AtomNumber) -> Option<bool>
     ensures { byte_of result ≡ «atom-at» assignment.now atom }
 {
     if atom == 0 {
-        return Value::Unknown;
+        return None;
     }
     read_value(byte_at(assignment, atom as usize - 1))
 }
@@ -45,10 +36,5 @@ pub fn value_at(assignment: &[u8], atom: AtomNumber) -> Value
 pub fn is_complete(assignment: &[u8], atoms: usize) -> bool
     ensures { Decides result (Complete atoms assignment.now) }
 {
-    for byte in assignment {
-        if *byte > 1 {
-            return false;
-        }
-    }
-    assignment.len() == atoms
+    assignment.len() == atoms && assignment.iter().all(|byte| *byte < 2)
 }

@@ -6,29 +6,19 @@ use refusals::Refusal;
 use std::cell::Cell;
 use vetoes::veto::{Verdict, Veto};
 
-pub trait Counter {
-    fn add_one(&self);
-}
-
-impl<'a> Counter for &'a Cell<u64> {
-    fn add_one(&self) {
-        self.set(self.get().saturating_add(1));
-    }
-}
-
 #[derive(Drop)]
-pub struct Counting<V, C> {
+pub struct Counting<'a, V> {
     veto: V,
-    nodes: C,
+    nodes: &'a Cell<u64>,
 }
 
-impl<V: Veto, C: Counter> Counting<V, C> {
-    pub fn new(veto: V, nodes: C) -> Counting<V, C> {
+impl<'a, V: Veto> Counting<'a, V> {
+    pub fn new(veto: V, nodes: &'a Cell<u64>) -> Counting<'a, V> {
         Counting { veto, nodes }
     }
 }
 
-impl<V: Veto, C: Counter> Veto for Counting<V, C> {
+impl<V: Veto> Veto for Counting<'_, V> {
     ghost means = { λ v. V.Veto.means v.veto };
 
     ghost lawful = { Prim.search rules };
@@ -38,7 +28,7 @@ impl<V: Veto, C: Counter> Veto for Counting<V, C> {
     }
 
     fn examine(&mut self, assignment: &[u8], ticks: &mut [u8]) -> Result<Verdict, Refusal> {
-        self.nodes.add_one();
+        self.nodes.set(self.nodes.get().saturating_add(1));
         self.veto.examine(assignment, ticks)
     }
 }

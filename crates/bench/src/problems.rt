@@ -1,7 +1,7 @@
 // The problems: each is a number of atoms, clauses, arcs for a cycle veto, and assumptions.
-use crate::random::Random;
 use assignments::Literal;
 use cycles::arc::Arc;
+use random::Random;
 use std::alloc::{AllocError, Global};
 
 #[derive(Drop)]
@@ -12,8 +12,20 @@ pub struct Problem {
     pub assumed: Vec<Literal>,
 }
 
+impl Problem {
+    // With no arc and no assumption.
+    fn new(heap: Global, atoms: u8, clauses: Vec<Vec<Literal>>) -> Problem {
+        Problem {
+            atoms,
+            clauses,
+            arcs: Vec::new(heap),
+            assumed: Vec::new(heap),
+        }
+    }
+}
+
 fn signed(random: &mut Random, atom: u8) -> Literal {
-    if random.below(2) == 0 {
+    if random.one_in(2) {
         i16::from(atom).wrapping_neg()
     } else {
         i16::from(atom)
@@ -26,11 +38,8 @@ fn three_literals(
     random: &mut Random,
     atoms: u8,
 ) -> Result<Vec<Literal>, AllocError> {
-    let mut clause = Vec::new(heap);
-    for atom in three_of(random, atoms) {
-        clause.push(signed(random, atom))?;
-    }
-    Ok(clause)
+    let atoms = three_of(random, atoms);
+    atoms.iter().map(|atom| signed(random, *atom)).collect(heap)
 }
 
 // Three different numbers from 1 to `atoms`, as far as there are three: each is drawn from what is left, and moved past those
@@ -62,25 +71,14 @@ pub fn three_clauses(
     atoms: u8,
     count: u32,
 ) -> Result<Problem, AllocError> {
-    let mut clauses = Vec::new(heap);
-    for _ in 0..count {
-        clauses.push(three_literals(heap, random, atoms)?)?;
-    }
-    Ok(Problem {
-        atoms,
-        clauses,
-        arcs: Vec::new(heap),
-        assumed: Vec::new(heap),
-    })
+    let drawn = (0..count).map(|_| three_literals(heap, random, atoms));
+    let clauses = drawn.try_collect(heap)?;
+    Ok(Problem::new(heap, atoms, clauses))
 }
 
 // Every atom true, as assumptions.
 pub fn all_true(heap: Global, atoms: u8) -> Result<Vec<Literal>, AllocError> {
-    let mut assumed = Vec::new(heap);
-    for atom in 0..atoms {
-        assumed.push(i16::from(atom).saturating_add(1))?;
-    }
-    Ok(assumed)
+    (1..=atoms).map(i16::from).collect(heap)
 }
 
 // An arc between two different signals.
@@ -93,19 +91,6 @@ fn arc(random: &mut Random, atom: u8, signals: u8) -> Arc {
     Arc { atom, from, to }
 }
 
-fn add_arcs(
-    arcs: &mut Vec<Arc>,
-    random: &mut Random,
-    atom: u8,
-    signals: u8,
-    count: u8,
-) -> Result<(), AllocError> {
-    for _ in 0..count {
-        arcs.push(arc(random, atom, signals))?;
-    }
-    Ok(())
-}
-
 // Atoms in pairs, each atom with random arcs, and for each pair a clause that wants one of the two.
 pub fn arc_pairs(
     heap: Global,
@@ -116,69 +101,73 @@ pub fn arc_pairs(
 ) -> Result<Problem, AllocError> {
     let mut clauses = Vec::new(heap);
     let mut arcs = Vec::new(heap);
-    let mut atom = 0u8;
-    for _ in 0..pairs {
-        let one = atom.saturating_add(1);
-        let other = atom.saturating_add(2);
-        add_arcs(&mut arcs, random, one, signals, arcs_each)?;
-        add_arcs(&mut arcs, random, other, signals, arcs_each)?;
+    for pair in 0..pairs {
+        let one = pair.saturating_mul(2).saturating_add(1);
+        let other = pair.saturating_mul(2).saturating_add(2);
+        arcs.extend((0..arcs_each).map(|_| arc(random, one, signals)))?;
+        arcs.extend((0..arcs_each).map(|_| arc(random, other, signals)))?;
         clauses.push(vec![in heap; i16::from(one), i16::from(other)]?)?;
-        atom = other;
     }
-    Ok(Problem {
-        atoms: atom,
-        clauses,
-        arcs,
-        assumed: Vec::new(heap),
-    })
+    let mut problem = Problem::new(heap, pairs.saturating_mul(2), clauses);
+    problem.arcs = arcs;
+    Ok(problem)
 }
 
-// The atom that says that the pigeon is in the hole; both are counted from 0.
-fn sits(pigeon: u8, hole: u8, holes: u8) -> u8 {
-    pigeon
-        .saturating_mul(holes)
-        .saturating_add(hole)
-        .saturating_add(1)
-}
-
-fn some_hole(heap: Global, pigeon: u8, holes: u8) -> Result<Vec<Literal>, AllocError> {
-    let mut clause = Vec::new(heap);
-    for hole in 0..holes {
-        clause.push(i16::from(sits(pigeon, hole, holes)))?;
-    }
-    Ok(clause)
-}
-
-// No pigeon before this one sits in the hole with it.
-fn alone(
+// The clauses that put pigeons into so many holes. Both are counted from 0.
+#[derive(Drop)]
+struct Holes {
     heap: Global,
-    clauses: &mut Vec<Vec<Literal>>,
-    pigeon: u8,
-    hole: u8,
-    holes: u8,
-) -> Result<(), AllocError> {
-    let here = i16::from(sits(pigeon, hole, holes)).wrapping_neg();
-    for other in 0..pigeon {
-        let there = i16::from(sits(other, hole, holes)).wrapping_neg();
-        clauses.push(vec![in heap; there, here]?)?;
+    count: u8,
+    clauses: Vec<Vec<Literal>>,
+}
+
+impl Holes {
+    // That the pigeon is in the hole.
+    fn sits(&self, pigeon: u8, hole: u8) -> Literal {
+        let before = pigeon.saturating_mul(self.count).saturating_add(hole);
+        i16::from(before.saturating_add(1))
     }
-    Ok(())
+
+    // The pigeon is in some hole.
+    fn place(&mut self, pigeon: u8) -> Result<(), AllocError> {
+        let holes = 0..self.count;
+        let clause = holes
+            .map(|hole| self.sits(pigeon, hole))
+            .collect(self.heap)?;
+        self.clauses.push(clause)?;
+        Ok(())
+    }
+
+    // No pigeon before this one sits in the hole with it.
+    fn keep_alone(&mut self, pigeon: u8, hole: u8) -> Result<(), AllocError> {
+        let here = self.sits(pigeon, hole).wrapping_neg();
+        for other in 0..pigeon {
+            let there = self.sits(other, hole).wrapping_neg();
+            self.clauses.push(vec![in self.heap; there, here]?)?;
+        }
+        Ok(())
+    }
+
+    fn add(&mut self, pigeon: u8) -> Result<(), AllocError> {
+        self.place(pigeon)?;
+        for hole in 0..self.count {
+            self.keep_alone(pigeon, hole)?;
+        }
+        Ok(())
+    }
 }
 
 // Pigeons, each in some hole and no two in one, with one hole too few.
-pub fn pigeons(heap: Global, holes: u8) -> Result<Problem, AllocError> {
-    let mut clauses = Vec::new(heap);
-    let pigeons = holes.saturating_add(1);
+pub fn pigeons(heap: Global, count: u8) -> Result<Problem, AllocError> {
+    let mut holes = Holes {
+        heap,
+        count,
+        clauses: Vec::new(heap),
+    };
+    let pigeons = count.saturating_add(1);
     for pigeon in 0..pigeons {
-        clauses.push(some_hole(heap, pigeon, holes)?)?;
-        for hole in 0..holes {
-            alone(heap, &mut clauses, pigeon, hole, holes)?;
-        }
+        holes.add(pigeon)?;
     }
-    Ok(Problem {
-        atoms: pigeons.saturating_mul(holes),
-        clauses,
-        arcs: Vec::new(heap),
-        assumed: Vec::new(heap),
-    })
+    let atoms = pigeons.saturating_mul(count);
+    Ok(Problem::new(heap, atoms, holes.clauses))
 }

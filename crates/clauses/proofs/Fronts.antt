@@ -2,7 +2,7 @@
 use Rattle.std.proofs.Common.{◌≡◌, ℕ, zero, suc, ◌+◌, ◌<◌, ◌≤◌, Bool, true, false, cond, eqb, ltb, leb, List, [], ◌∷◌, ◌++◌, length, get_or, take, ℤ, is_some, Some, None, sym, refl, ap, ◌∙◌, arith, length-append, take_all}
 use lib.ListN.{length-map}
 use Rattle.std.proofs.lemmas.List.{map-append, drop_at}
-use Rattle.std.proofs.lemmas.Bool.{true≢false, and_from, and_parts, and_left, eqb-true, le-leb, leb-true, lt-leb, lt-ltb, ltb-true, cond-true}
+use Rattle.std.proofs.lemmas.Bool.{true≢false, and_from, and_parts, eqb-true, le-leb, leb-true, lt-ltb, ltb-true, cond-true}
 use Rattle.std.proofs.lemmas.Bool.Decides.{nat_tests}
 use Rattle.refusals.specs.declared.Refusal.{Refusal}
 use Rattle.refusals.specs.declared.Refusal.TheVariants.{LiteralOutOfRange, ClauseTableFull, LiteralTableFull}
@@ -78,19 +78,6 @@ module _ (ls : List ℤ) (ss : List Stretch) (whole : laid 0 ss (length ls) ≡ 
       let n = length-map ss (part ls) in
       let e = count in
       grind (arith, nat_tests)
-
-  pub front_whole : k ≡ length ss → eqb m (length ls) ≡ is_front (parts ls ss) k m
-  front_whole h =
-      let n = length-map ss (part ls) in
-      let e = count in
-      let all : lens (take k ss) ≡ lens ss = ap lens (take_all k ss (omega arith)) in
-      let z = laid_lens 0 ss (length ls) whole in
-      grind (arith, nat_tests)
-
-  pub front_past : length ss < k → false ≡ is_front (parts ls ss) k m
-  front_past h =
-      let n = length-map ss (part ls) in
-      sym (and_left (leb k (length (parts ls ss))) _ (lt-leb k (length (parts ls ss)) (omega arith)))
 
   pub front_lens : true ≡ is_front (parts ls ss) k m → m ≡ lens (take k ss)
   front_lens e = eqb-true _ _ (and_parts (leb k (length (parts ls ss))) (eqb m (literal_count (take k (parts ls ss)))) (sym e)).1 ∙ count

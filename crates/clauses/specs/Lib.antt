@@ -3,3 +3,4 @@ pub mod Stretches
 pub mod Books
 pub mod Adding
 pub mod Evaluation
+pub mod Listing

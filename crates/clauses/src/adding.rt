@@ -1,6 +1,7 @@
 // A book from its start on: fresh, one clause more, and back to what it held before.
-ghost use Rattle.std.specs.Prelude.{◌≡◌, [], ◌∷◌, ◌++◌, length, take, is_ok, IfOk, if◌then◌else◌};
+ghost use Rattle.std.specs.Prelude.{◌≡◌, ◌≤◌, [], ◌∷◌, ◌++◌, length, take, is_ok, IfOk, if◌then◌else◌};
 ghost use Rattle.std.specs.Result.{result_err};
+ghost use Rattle.assignments.specs.Limits.{atom_limit};
 ghost use Rattle.clauses.specs.Books.{atoms_of, clauses_of};
 ghost use Rattle.clauses.specs.Adding.{refusal_of_fresh, refusal_of_adding, literal_count, is_front};
 
@@ -22,12 +23,7 @@ impl ClauseBook {
         if atoms > ATOM_LIMIT {
             return Err(Refusal::CountOutOfRange);
         }
-        let stretches = Table::new(Stretch { start: 0, len: 0 });
-        Ok(ClauseBook {
-            atoms,
-            literals: Table::new(0),
-            stretches,
-        })
+        Ok(ClauseBook::over(atoms))
     }
 
     // A book of no atoms and no clauses.
@@ -35,11 +31,19 @@ impl ClauseBook {
         ensures atoms { atoms_of result ≡ 0 }
         ensures clauses { clauses_of result ≡ [] }
     {
-        let stretches = Table::new(Stretch { start: 0, len: 0 });
+        ClauseBook::over(0)
+    }
+
+    // A book of no clauses over a number of atoms within the limit.
+    fn over(atoms: usize) -> ClauseBook
+        requires { atoms ≤ atom_limit }
+        ensures atoms { atoms_of result ≡ atoms }
+        ensures clauses { clauses_of result ≡ [] }
+    {
         ClauseBook {
-            atoms: 0,
+            atoms,
             literals: Table::new(0),
-            stretches,
+            stretches: Table::new(Stretch { start: 0, len: 0 }),
         }
     }
 
@@ -49,34 +53,29 @@ impl ClauseBook {
         ensures clauses { clauses_of self.new ≡ (if is_ok result then clauses_of self.old ++ clause.now ∷ [] else clauses_of self.old) }
         ensures atoms { atoms_of self.new ≡ atoms_of self.old }
     {
-        match self.refusal_of_adding(clause) {
-            None => {
-                let start = self.literals.as_slice().len();
-                let len = clause.len();
-                let _ = self.literals.extend(clause);
-                let _ = self.stretches.push(Stretch { start, len });
-                Ok(())
-            }
-            Some(refusal) => Err(refusal),
-        }
+        self.accepts(clause)?;
+        let start = self.literals.as_slice().len();
+        let len = clause.len();
+        let _ = self.literals.extend(clause);
+        let _ = self.stretches.push(Stretch { start, len });
+        Ok(())
     }
 
-    // The earliest refusal that adding the clause meets.
-    fn refusal_of_adding(&self, clause: &[Literal]) -> Option<Refusal>
-        ensures { result ≡ refusal_of_adding (atoms_of self.now) (clauses_of self.now) clause.now }
+    // Whether the clause may be added, or the earliest refusal that it meets.
+    fn accepts(&self, clause: &[Literal]) -> Result<(), Refusal>
+        ensures { result_err result ≡ refusal_of_adding (atoms_of self.now) (clauses_of self.now) clause.now }
     {
-        let ranged = are_in_range(clause, self.atoms);
-        let held = self.counts();
-        if !ranged {
-            return Some(Refusal::LiteralOutOfRange);
+        if !are_in_range(clause, self.atoms) {
+            return Err(Refusal::LiteralOutOfRange);
         }
+        let held = self.counts();
         if held.clauses >= CLAUSE_LIMIT {
-            return Some(Refusal::ClauseTableFull);
+            return Err(Refusal::ClauseTableFull);
         }
         if held.literals.saturating_add(clause.len()) > LITERAL_LIMIT {
-            return Some(Refusal::LiteralTableFull);
+            return Err(Refusal::LiteralTableFull);
         }
-        None
+        Ok(())
     }
 
     pub fn atoms(&self) -> usize
@@ -114,10 +113,9 @@ impl ClauseBook {
     fn is_front(&self, to: Counts) -> bool
         ensures { result ≡ is_front (clauses_of self.now) to.clauses to.literals }
     {
-        let stretches = self.stretches.as_slice();
-        if to.clauses < stretches.len() {
-            return stretches[to.clauses].start == to.literals;
+        match self.stretches.as_slice().get(to.clauses) {
+            Some(stretch) => stretch.start == to.literals,
+            None => to == self.counts(),
         }
-        to.clauses == stretches.len() && to.literals == self.literals.as_slice().len()
     }
 }

@@ -13,24 +13,15 @@ impl ClauseBook {
     pub fn clause(&self, index: usize) -> Option<&[Literal]>
         ensures { MatchOption result (length (clauses_of self.now) ≤ index) (λ c. (index < length (clauses_of self.now)) × (c.now ≡ slice_index_or (clauses_of self.now) index [])) }
     {
-        let stretches = self.stretches.as_slice();
-        if index >= stretches.len() {
-            return None;
-        }
-        let start = stretches[index].start;
-        let end = start + stretches[index].len;
-        let literals = self.literals.as_slice();
-        Some(&literals[start..end])
+        let stretch = self.stretches.as_slice().get(index)?;
+        Some(stretch.part_of(self.literals.as_slice()))
     }
 
     // Whether the assignment meets one clause, or None where there is no clause of this index.
     pub fn is_clause_met_by(&self, index: usize, assignment: &[u8]) -> Option<bool>
         ensures { result ≡ (if nat_lt index (length (clauses_of self.now)) then Some (met assignment.now (slice_index_or (clauses_of self.now) index [])) else None) }
     {
-        match self.clause(index) {
-            Some(clause) => Some(is_met(assignment, clause)),
-            None => None,
-        }
+        self.clause(index).map(|clause| is_met(assignment, clause))
     }
 
     // Whether the assignment meets every clause.
@@ -39,11 +30,8 @@ impl ClauseBook {
         ensures decides { Decides result (EachHasTrue assignment.now (clauses_of self.now)) }
     {
         let literals = self.literals.as_slice();
-        let stretches = self.stretches.as_slice();
-        'clauses: for stretch in stretches {
-            let start = stretch.start;
-            let end = start + stretch.len;
-            for literal in &literals[start..end] {
+        'clauses: for stretch in self.stretches.as_slice() {
+            for literal in stretch.part_of(literals) {
                 if is_true(assignment, *literal) {
                     continue 'clauses;
                 }

@@ -6,6 +6,7 @@
 pub mod adding;
 pub mod book;
 pub mod evaluation;
+pub mod listing;
 pub mod stretch;
 
 pub const CLAUSE_LIMIT: usize = 400;

@@ -1,5 +1,6 @@
 // An arc between two signals, there where its atom is true.
-ghost use Rattle.cycles.specs.Arcs.{counted_arc};
+ghost use Rattle.std.specs.Prelude.{◌≡◌};
+ghost use Rattle.cycles.specs.Arcs.{counted_arc, is_signal};
 ghost use Rattle.std.proofs.Common.{rules};
 
 use assignments::{ATOM_LIMIT, AtomNumber};
@@ -17,6 +18,12 @@ pub struct Arc {
     pub to: SignalNumber,
 }
 
+fn is_signal(number: SignalNumber) -> bool
+    ensures { result ≡ is_signal number }
+{
+    (1..=SIGNAL_LIMIT).contains(&(number as usize))
+}
+
 // An arc with an atom or a signal out of range does not count.
 impl Counted for Arc {
     ghost counted = { counted_arc };
@@ -24,15 +31,10 @@ impl Counted for Arc {
     ghost few = { Prim.search rules };
 
     fn counted_atom(&self) -> AtomNumber {
-        if self.atom as usize > ATOM_LIMIT {
-            return 0;
+        if self.atom as usize <= ATOM_LIMIT && is_signal(self.from) && is_signal(self.to) {
+            self.atom
+        } else {
+            0
         }
-        if self.from == 0 || self.from as usize > SIGNAL_LIMIT {
-            return 0;
-        }
-        if self.to == 0 || self.to as usize > SIGNAL_LIMIT {
-            return 0;
-        }
-        self.atom
     }
 }

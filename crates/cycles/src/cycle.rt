@@ -9,7 +9,7 @@ use crate::walk::find_chain;
 use refusals::Refusal;
 use vetoes::counted::highest;
 use vetoes::lent::Lent;
-use vetoes::marks::{answer, blank_marks};
+use vetoes::marks::answer;
 use vetoes::veto::{Verdict, Veto};
 
 #[derive(Drop)]
@@ -37,8 +37,8 @@ impl<S: Lent<Arc>> Veto for Cycle<S> {
     }
 
     fn examine(&mut self, assignment: &[u8], ticks: &mut [u8]) -> Result<Verdict, Refusal> {
-        let mut marks = blank_marks();
-        let speaks = find_chain(self.arcs.as_items(), assignment, &mut marks);
-        answer(speaks, &marks, assignment, ticks)
+        let chain = find_chain(self.arcs.as_items(), assignment);
+        let reason = chain.as_ref().map(|reason| reason.as_slice());
+        answer(reason, assignment, ticks)
     }
 }

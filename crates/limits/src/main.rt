@@ -5,12 +5,17 @@ use assignments::Literal;
 use clauses::book::ClauseBook;
 use clauses::stretch::Counts;
 use refusals::Refusal;
+use std::fmt::Display;
 use std::io;
 
-fn tell(rt: &HostRuntime, what: &str, answer: Result<(), Refusal>) -> io::Result<()> {
+fn tell<D: Display + Drop>(
+    rt: &HostRuntime,
+    what: D,
+    answer: Result<(), Refusal>,
+) -> io::Result<()> {
     match answer {
         Ok(()) => println!(rt; "{what}: accepted"),
-        Err(refusal) => println!(rt; "{what}: refused {}, {}", refusal.number(), refusal.text()),
+        Err(refusal) => println!(rt; "{what}: refused {}, {refusal}", refusal.number()),
     }
 }
 
@@ -26,9 +31,8 @@ fn tell_fresh(rt: &HostRuntime, atoms: usize) -> io::Result<()> {
     match ClauseBook::fresh(atoms) {
         Ok(book) => println!(rt; "book over {} atoms: accepted", book.atoms()),
         Err(refusal) => println!(rt;
-            "book over {atoms} atoms: refused {}, {}",
-            refusal.number(),
-            refusal.text()
+            "book over {atoms} atoms: refused {}, {refusal}",
+            refusal.number()
         ),
     }
 }
@@ -41,46 +45,49 @@ fn add_times(book: &mut ClauseBook, times: usize, clause: &[Literal]) -> Result<
     Ok(())
 }
 
-fn literals(rt: &HostRuntime, book: &mut ClauseBook) -> io::Result<()> {
-    tell(rt, "literal 0", book.add(&[0]))?;
-    tell(rt, "literal 1", book.add(&[1]))?;
-    tell(rt, "literal -1", book.add(&[-1]))?;
-    tell(rt, "literal 200", book.add(&[200]))?;
-    tell(rt, "literal -200", book.add(&[-200]))?;
-    tell(rt, "literal 201", book.add(&[201]))?;
-    tell(rt, "literal -201", book.add(&[-201]))?;
-    tell(rt, "literal 32767", book.add(&[32767]))?;
-    tell(rt, "literal -32768", book.add(&[-32768]))?;
+fn literals(rt: &HostRuntime) -> anyhow::Result<()> {
+    let mut book = ClauseBook::fresh(200)?;
+    for literal in [0, 1, -1, 200, -200, 201, -201, 32767, -32768] {
+        tell(rt, format_args!("literal {literal}"), book.add(&[literal]))?;
+    }
     tell(rt, "literals 1 and 201", book.add(&[1, 201]))?;
-    tell_counts(rt, book)
+    tell_counts(rt, &book)?;
+    Ok(())
 }
 
-fn empty_clause(rt: &HostRuntime, book: &mut ClauseBook) -> io::Result<()> {
+fn empty_clause(rt: &HostRuntime) -> anyhow::Result<()> {
+    let mut book = ClauseBook::fresh(2)?;
     let met = book.is_met_by(&[1, 0]);
     println!(rt; "no clause held, 10 meets all: {met}")?;
     tell(rt, "empty clause", book.add(&[]))?;
     let met = book.is_met_by(&[1, 0]);
-    println!(rt; "empty clause held, 10 meets all: {met}")
+    println!(rt; "empty clause held, 10 meets all: {met}")?;
+    Ok(())
 }
 
-fn clause_table(rt: &HostRuntime, book: &mut ClauseBook) -> io::Result<()> {
-    tell(rt, "400 clauses", add_times(book, 400, &[1]))?;
+fn clause_table(rt: &HostRuntime) -> anyhow::Result<()> {
+    let mut book = ClauseBook::fresh(2)?;
+    tell(rt, "400 clauses", add_times(&mut book, 400, &[1]))?;
     tell(rt, "one clause more", book.add(&[1]))?;
     tell(rt, "one more with literal 0", book.add(&[0]))?;
-    tell_counts(rt, book)
+    tell_counts(rt, &book)?;
+    Ok(())
 }
 
-fn literal_table(rt: &HostRuntime, book: &mut ClauseBook) -> io::Result<()> {
-    tell(rt, "2000 literals", add_times(book, 4, &[-2; 500]))?;
+fn literal_table(rt: &HostRuntime) -> anyhow::Result<()> {
+    let mut book = ClauseBook::fresh(2)?;
+    tell(rt, "2000 literals", add_times(&mut book, 4, &[-2; 500]))?;
     tell(rt, "one literal more", book.add(&[1]))?;
     tell(rt, "one more with literal 201", book.add(&[201]))?;
     tell(rt, "an empty clause more", book.add(&[]))?;
-    tell(rt, "400 clauses", add_times(book, 395, &[]))?;
+    tell(rt, "400 clauses", add_times(&mut book, 395, &[]))?;
     tell(rt, "one literal in one clause more", book.add(&[1]))?;
-    tell_counts(rt, book)
+    tell_counts(rt, &book)?;
+    Ok(())
 }
 
-fn cut_back(rt: &HostRuntime, book: &mut ClauseBook) -> io::Result<()> {
+fn cut_back(rt: &HostRuntime) -> anyhow::Result<()> {
+    let mut book = ClauseBook::fresh(2)?;
     tell(rt, "clause 1 2", book.add(&[1, 2]))?;
     let opening = book.counts();
     tell(rt, "clause -1", book.add(&[-1]))?;
@@ -91,27 +98,17 @@ fn cut_back(rt: &HostRuntime, book: &mut ClauseBook) -> io::Result<()> {
     println!(rt; "cut back to 1 clause, 1 literal: {other}")?;
     let back = book.cut_back(opening);
     println!(rt; "cut back to 1 clause, 2 literals: {back}")?;
-    tell_counts(rt, book)
+    tell_counts(rt, &book)?;
+    Ok(())
 }
 
-fn main(rt: HostRuntime) -> io::Result<()> {
-    tell_fresh(&rt, 0)?;
-    tell_fresh(&rt, 200)?;
-    tell_fresh(&rt, 201)?;
-    if let Ok(mut book) = ClauseBook::fresh(200) {
-        literals(&rt, &mut book)?;
+fn main(rt: HostRuntime) -> anyhow::Result<()> {
+    for atoms in [0, 200, 201] {
+        tell_fresh(&rt, atoms)?;
     }
-    if let Ok(mut book) = ClauseBook::fresh(2) {
-        empty_clause(&rt, &mut book)?;
-    }
-    if let Ok(mut book) = ClauseBook::fresh(2) {
-        clause_table(&rt, &mut book)?;
-    }
-    if let Ok(mut book) = ClauseBook::fresh(2) {
-        literal_table(&rt, &mut book)?;
-    }
-    if let Ok(mut book) = ClauseBook::fresh(2) {
-        cut_back(&rt, &mut book)?;
-    }
-    Ok(())
+    literals(&rt)?;
+    empty_clause(&rt)?;
+    clause_table(&rt)?;
+    literal_table(&rt)?;
+    cut_back(&rt)
 }

@@ -9,19 +9,15 @@ ghost use Rattle.std.proofs.lemmas.Bool.{lt-ltb, ltb-true};
 pub trait LoadKind: Sized + Copy {
     const EMPTY: Self;
 
+    ghost EMPTY: { Self };
+
     // what a value of the type can be
     ghost fit: { Self → Type 0 };
-
-    ghost empty: { Self };
 
     ghost join: { Self → Self → Self };
 
     // over the limit, which comes first
     ghost over: { Self → Self → Bool };
-
-    // The constant, as generic code can know it.
-    fn nothing() -> Self
-        ensures { result ≡ empty };
 
     fn joined(self, other: Self) -> Self
         ensures { result ≡ join self other };
@@ -33,7 +29,7 @@ pub trait LoadKind: Sized + Copy {
 
     ghost comm: { (x y : Self) → join x y ≡ join y x };
 
-    ghost neutral: { (x : Self) → fit x → join empty x ≡ x };
+    ghost neutral: { (x : Self) → fit x → join EMPTY x ≡ x };
 
     ghost stays: { (m x y : Self) → over m x ≡ true → over m (join x y) ≡ true };
 }
@@ -47,9 +43,9 @@ pub type Lines = u16;
 impl LoadKind for u32 {
     const EMPTY: u32 = 0;
 
-    ghost fit = { λ x. x < 2 ^ 32 };
+    ghost EMPTY = { 0 };
 
-    ghost empty = { 0 };
+    ghost fit = { λ x. x < 2 ^ 32 };
 
     ghost join = { sum };
 
@@ -63,10 +59,6 @@ impl LoadKind for u32 {
 
     ghost stays = { Prim.search rules };
 
-    fn nothing() -> u32 {
-        Self::EMPTY
-    }
-
     fn joined(self, other: u32) -> u32 {
         self.saturating_add(other)
     }
@@ -79,9 +71,9 @@ impl LoadKind for u32 {
 impl LoadKind for u16 {
     const EMPTY: u16 = 0;
 
-    ghost fit = { λ x. x < 2 ^ 16 };
+    ghost EMPTY = { 0 };
 
-    ghost empty = { 0 };
+    ghost fit = { λ x. x < 2 ^ 16 };
 
     ghost join = { union };
 
@@ -94,10 +86,6 @@ impl LoadKind for u16 {
     ghost neutral = { Prim.search rules };
 
     ghost stays = { λ m x y h. lt-ltb (count_ones m) (count_ones (bit_or x y)) (omega (arith, ltb-true (count_ones m) (count_ones x) h, ones_or x y)) };
-
-    fn nothing() -> u16 {
-        Self::EMPTY
-    }
 
     fn joined(self, other: u16) -> u16 {
         self | other

@@ -10,7 +10,7 @@ use refusals::Refusal;
 use std::marker::PhantomData;
 use vetoes::counted::highest;
 use vetoes::lent::Lent;
-use vetoes::marks::{answer, blank_marks};
+use vetoes::marks::answer;
 use vetoes::veto::{Verdict, Veto};
 
 // The first row is the limit, its atom ignored. Without a row there is no limit, and the veto never speaks.
@@ -33,9 +33,9 @@ impl<L: LoadKind, S: Lent<Row<L>>> Load<L, S> {
 }
 
 impl<L: LoadKind, S: Lent<Row<L>>> Veto for Load<L, S> {
-    ghost means = { λ v. load_means L.LoadKind.empty L.LoadKind.join L.LoadKind.over (S.Lent.items v.rows) };
+    ghost means = { λ v. load_means L.LoadKind.EMPTY L.LoadKind.join L.LoadKind.over (S.Lent.items v.rows) };
 
-    ghost lawful = { λ v. load_lawful L.LoadKind.empty L.LoadKind.join L.LoadKind.assoc L.LoadKind.comm L.LoadKind.over L.LoadKind.stays (S.Lent.items v.rows) };
+    ghost lawful = { λ v. load_lawful L.LoadKind.EMPTY L.LoadKind.join L.LoadKind.assoc L.LoadKind.comm L.LoadKind.over L.LoadKind.stays (S.Lent.items v.rows) };
 
     fn reach(&self) -> usize {
         match self.rows.as_items() {
@@ -45,14 +45,12 @@ impl<L: LoadKind, S: Lent<Row<L>>> Veto for Load<L, S> {
     }
 
     fn examine(&mut self, assignment: &[u8], ticks: &mut [u8]) -> Result<Verdict, Refusal> {
-        let mut marks = blank_marks();
         match self.rows.as_items() {
-            [] => answer(false, &marks, assignment, ticks),
-            [limit, later @ ..] => {
-                let speaks = total_of(assignment, later).is_over(limit.load);
-                explain(assignment, later, limit.load, &mut marks);
-                answer(speaks, &marks, assignment, ticks)
+            [limit, later @ ..] if total_of(assignment, later).is_over(limit.load) => {
+                let reason = explain(assignment, later, limit.load);
+                answer(Some(reason.as_slice()), assignment, ticks)
             }
+            _ => answer(None, assignment, ticks),
         }
     }
 }

@@ -19,8 +19,9 @@ impl<L> Counted for Row<L> {
 
     fn counted_atom(&self) -> AtomNumber {
         if self.atom as usize > ATOM_LIMIT {
-            return 0;
+            0
+        } else {
+            self.atom
         }
-        self.atom
     }
 }

@@ -1,17 +1,17 @@
 // The total of the rows with true atoms, and which of them already make it too much.
 ghost use Rattle.std.specs.Prelude.{◌≡◌, true};
-ghost use Rattle.vetoes.specs.Marks.{Marks};
 ghost use Rattle.vetoes.specs.Verdicts.{ticked};
 ghost use Rattle.loads.specs.Rows.{total};
 
 use crate::kind::LoadKind;
 use crate::row::Row;
 use vetoes::counted::is_live;
+use vetoes::reason::Reason;
 
 pub fn total_of<L: LoadKind>(assignment: &[u8], rows: &[Row<L>]) -> L
-    ensures { result ≡ total L.LoadKind.empty L.LoadKind.join assignment.now rows.now }
+    ensures { result ≡ total L.LoadKind.EMPTY L.LoadKind.join assignment.now rows.now }
 {
-    let mut all = L::nothing();
+    let mut all = L::EMPTY;
     for row in rows {
         if is_live(assignment, row) {
             all = all.joined(row.load);
@@ -20,21 +20,26 @@ pub fn total_of<L: LoadKind>(assignment: &[u8], rows: &[Row<L>]) -> L
     all
 }
 
-// Marks the true atoms row by row, until their joined load is over the limit.
-pub(crate) fn explain<L: LoadKind>(assignment: &[u8], rows: &[Row<L>], limit: L, marks: &mut [u8])
-    requires { Marks assignment.now marks.old }
-    ensures marked { Marks assignment.now marks.new }
-    ensures reason { L.LoadKind.over limit (total L.LoadKind.empty L.LoadKind.join assignment.now rows.now) ≡ true → L.LoadKind.over limit (total L.LoadKind.empty L.LoadKind.join (ticked assignment.now marks.new) rows.now) ≡ true }
+// The true atoms row by row, until their joined load is over the limit.
+pub(crate) fn explain<'a, L: LoadKind>(
+    assignment: &'a [u8],
+    rows: &[Row<L>],
+    limit: L,
+) -> Reason<'a>
+    ensures of { result.assignment.now ≡ assignment.now }
+    ensures over { L.LoadKind.over limit (total L.LoadKind.EMPTY L.LoadKind.join assignment.now rows.now) ≡ true → L.LoadKind.over limit (total L.LoadKind.EMPTY L.LoadKind.join (ticked assignment.now result.marks) rows.now) ≡ true }
 {
-    let mut sum = L::nothing();
+    let mut reason = Reason::new(assignment);
+    let mut sum = L::EMPTY;
     for row in rows {
         if !is_live(assignment, row) {
             continue;
         }
         sum = sum.joined(row.load);
-        marks[row.atom as usize - 1] = 1;
+        reason.mark(row.atom);
         if sum.is_over(limit) {
-            return;
+            break;
         }
     }
+    reason
 }

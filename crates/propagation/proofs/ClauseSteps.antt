@@ -1,10 +1,11 @@
 -- The first literals of a clause and the first clauses of a list, one more at a time. Assumes nothing.
-use Rattle.std.proofs.Common.{◌≡◌, ℕ, zero, suc, ◌+◌, ◌<◌, Bool, true, false, ◌&&◌, ◌||◌, List, [], ◌∷◌, ◌++◌, length, get_or, take, ℤ, pos, sym, ap, ◌∙◌, le_of_suc-le-suc, not-suc-le-zero, arith}
+use Rattle.std.proofs.Common.{◌≡◌, ℕ, zero, suc, ◌+◌, ◌<◌, Bool, true, false, ◌&&◌, ◌||◌, Option, Some, None, List, [], ◌∷◌, ◌++◌, length, get_or, take, ℤ, pos, sym, ap, ◌∙◌, le_of_suc-le-suc, not-suc-le-zero, arith}
 use Rattle.std.proofs.lemmas.List.{take_more}
 use Rattle.std.proofs.lemmas.Bool.{or_left, or_right, and_from, and_parts}
 use Rattle.std.proofs.lemmas.Bool.Decides.{nat_tests}
 use Rattle.assignments.specs.Literals.{true_at, met, all_met}
-use Rattle.propagation.specs.States.{Refuted, Left, Filled}
+use Rattle.propagation.specs.States.{Refuted, Left}
+use Rattle.propagation.specs.declared.wanted.Wanted.{Wanted}
 
 met_append : (q : List ℕ) (c : List ℤ) (l : ℤ) → met q (c ++ (l ∷ [])) ≡ (met q c || true_at q l)
 met_append q [] l = grind (arith, nat_tests)
@@ -13,29 +14,29 @@ met_append q (x ∷ c) l = let r = met_append q c l in grind (arith, nat_tests)
 met_more : (q : List ℕ) (c : List ℤ) (i : ℕ) → i < length c → met q (take (i + 1) c) ≡ (met q (take i c) || true_at q (get_or c i (pos 0)))
 met_more q c i h = ap (met q) (take_more c i (pos 0) h) ∙ met_append q (take i c) (get_or c i (pos 0))
 
--- what a walk over a clause has found: the one literal that is open, or none
-abbrev pub SoFar : ℕ → List ℕ → (List ℕ → Bool) → Bool → ℕ → ℕ → Type 0
-SoFar from p f true i v = Left from p f i v
-SoFar from p f false i v = Refuted from p f
+-- what a walk over a clause has found: what the one literal that is open wants, or nothing
+abbrev pub SoFar : ℕ → List ℕ → (List ℕ → Bool) → Option Wanted → Type 0
+SoFar from p f (Some w) = Left from p f w
+SoFar from p f None = Refuted from p f
 
 module _ (from : ℕ) (p : List ℕ) (c : List ℤ) (i : ℕ) (h : i < length c) where
   fails_more : (q : List ℕ) → true_at q (get_or c i (pos 0)) ≡ false → met q (take (i + 1) c) ≡ met q (take i c)
   fails_more q e = met_more q c i h ∙ grind (arith, nat_tests)
 
   -- one literal more that fails
-  pub sofar_fails : (seen : Bool) (j v : ℕ) → SoFar from p (λ q. met q (take i c)) seen j v → Refuted from p (λ q. true_at q (get_or c i (pos 0))) → SoFar from p (λ q. met q (take (i + 1) c)) seen j v
-  sofar_fails true j v a b = record {
+  pub sofar_fails : (found : Option Wanted) → SoFar from p (λ q. met q (take i c)) found → Refuted from p (λ q. true_at q (get_or c i (pos 0))) → SoFar from p (λ q. met q (take (i + 1) c)) found
+  sofar_fails (Some w) a b = record {
     free = a.free;
     within = a.within;
     unknown = a.unknown;
     bit = a.bit;
     forced = λ q x m. a.forced q x (sym (fails_more q (b.never q x)) ∙ m);
   }
-  sofar_fails false j v a b = record { never = λ q x. fails_more q (b.never q x) ∙ a.never q x }
+  sofar_fails None a b = record { never = λ q x. fails_more q (b.never q x) ∙ a.never q x }
 
   -- the first that is open
-  pub sofar_open : (j v : ℕ) → Refuted from p (λ q. met q (take i c)) → Left from p (λ q. true_at q (get_or c i (pos 0))) j v → Left from p (λ q. met q (take (i + 1) c)) j v
-  sofar_open j v a b = record {
+  pub sofar_open : (w : Wanted) → Refuted from p (λ q. met q (take i c)) → Left from p (λ q. true_at q (get_or c i (pos 0))) w → Left from p (λ q. met q (take (i + 1) c)) w
+  sofar_open w a b = record {
     free = b.free;
     within = b.within;
     unknown = b.unknown;
@@ -50,10 +51,6 @@ module _ (from : ℕ) (p : List ℕ) (c : List ℤ) (i : ℕ) (h : i < length c)
       go [] k w e = absurd (not-suc-le-zero w)
       go (x ∷ xs) zero w e = or_left _ _ e
       go (x ∷ xs) (suc k) w e = or_right _ _ (go xs k (le_of_suc-le-suc w) e)
-
--- a second literal that is open: once every free atom has a value there is none
-pub open_never : (from : ℕ) (p : List ℕ) (f : List ℕ → Bool) (i v : ℕ) → Left from p f i v → Filled from p → ⊥
-open_never from p f i v a full = let k = full.known i a.free a.within in omega (arith, a.unknown)
 
 -- the clauses of a list
 module _ (q : List ℕ) where

@@ -1,3 +1,4 @@
 pub mod LiteralLaws
+pub mod Listed
 pub mod ClauseSteps
 pub mod TickSteps

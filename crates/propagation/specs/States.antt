@@ -3,6 +3,7 @@ use Rattle.std.specs.Prelude.{◌≡◌, ℕ, ◌<◌, ◌≤◌, Bool, true, fa
 use Rattle.assignments.specs.Assignments.{at}
 use Rattle.assignments.specs.Literals.{true_at, met, all_met}
 use Rattle.propagation.specs.Extensions.{Extends}
+use Rattle.propagation.specs.declared.wanted.Wanted.{Wanted}
 use Rattle.propagation.specs.declared.literal.Look.{Look}
 use Rattle.propagation.specs.declared.literal.Look.TheVariants.{Holds, Fails, Open}
 use Rattle.propagation.specs.declared.scanning.State.{State}
@@ -14,13 +15,13 @@ use Rattle.propagation.specs.declared.scanning.Sight.TheVariants.{Conflict, Forc
 pub record Refuted (from : ℕ) (p : List ℕ) (f : List ℕ → Bool) : Type 0 where
   pub never : (q : List ℕ) → Extends from p q → f q ≡ false
 
--- the atom at the place i is unknown and free, and f leaves it the value v
-pub record Left (from : ℕ) (p : List ℕ) (f : List ℕ → Bool) (i v : ℕ) : Type 0 where
-  pub free : from ≤ i
-  pub within : i < length p
-  pub unknown : at p i ≡ 2
-  pub bit : v < 2
-  pub forced : (q : List ℕ) → Extends from p q → f q ≡ true → at q i ≡ v
+-- the atom at the wanted place is unknown and free, and f leaves it the wanted value
+pub record Left (from : ℕ) (p : List ℕ) (f : List ℕ → Bool) (w : Wanted) : Type 0 where
+  pub free : from ≤ w.place
+  pub within : w.place < length p
+  pub unknown : at p w.place ≡ 2
+  pub bit : w.value < 2
+  pub forced : (q : List ℕ) → Extends from p q → f q ≡ true → at q w.place ≡ w.value
 
 -- every free atom has a value
 pub record Filled (from : ℕ) (p : List ℕ) : Type 0 where
@@ -29,16 +30,16 @@ pub record Filled (from : ℕ) (p : List ℕ) : Type 0 where
 abbrev pub Looked : ℕ → List ℕ → ℤ → Look → Type 0
 Looked from p l Holds = true_at p l ≡ true
 Looked from p l Fails = Refuted from p (λ q. true_at q l)
-Looked from p l (Open i v) = Left from p (λ q. true_at q l) i v
+Looked from p l (Open w) = Left from p (λ q. true_at q l) w
 
 abbrev pub Told : ℕ → List ℕ → (List ℕ → Bool) → State → Type 0
 Told from p f Met = f p ≡ true
 Told from p f Broken = Refuted from p f
-Told from p f (OneLeft i v) = Left from p f i v
+Told from p f (OneLeft w) = Left from p f w
 Told from p f Undecided = Filled from p → f p ≡ true
 
 -- the clause j that is broken, or that leaves one value; else all are met once every free atom has a value
 abbrev pub Seen : ℕ → List ℕ → List (List ℤ) → Sight → Type 0
 Seen from p cs (Conflict j) = (j < length cs) × Refuted from p (λ q. met q (slice_index_or cs j []))
-Seen from p cs (Forces j i v) = (j < length cs) × Left from p (λ q. met q (slice_index_or cs j [])) i v
+Seen from p cs (Forces j w) = (j < length cs) × Left from p (λ q. met q (slice_index_or cs j [])) w
 Seen from p cs Quiet = Filled from p → all_met p cs ≡ true

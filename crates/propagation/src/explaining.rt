@@ -4,24 +4,21 @@ ghost use Rattle.clauses.specs.Books.{clauses_of};
 ghost use Rattle.propagation.specs.Ticking.{Adds, Named};
 
 use assignments::Literal;
+use assignments::literals::place_of;
 use clauses::book::ClauseBook;
 
 // Ticks the known atoms that the literals name, as far as the ticks go.
 pub fn tick_known(literals: &[Literal], assignment: &[u8], ticks: &mut [u8])
     ensures { length assignment.now ≤ length ticks.old → Adds (Named assignment.now literals.now (length literals.now)) ticks.old ticks.new }
 {
+    let atoms = assignment.len().min(ticks.len());
     for literal in literals {
-        let atom = literal.unsigned_abs() as usize;
-        if atom == 0 || atom > assignment.len() {
+        let Some(place) = place_of(*literal, atoms) else {
             continue;
+        };
+        if assignment[place] < 2 {
+            ticks[place] = 1;
         }
-        if assignment[atom - 1] > 1 {
-            continue;
-        }
-        if atom > ticks.len() {
-            continue;
-        }
-        ticks[atom - 1] = 1;
     }
 }
 

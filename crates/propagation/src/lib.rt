@@ -4,3 +4,4 @@
 pub mod explaining;
 pub mod literal;
 pub mod scanning;
+pub mod wanted;

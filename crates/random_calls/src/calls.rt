@@ -1,36 +1,9 @@
 // Random calls, with their arguments and with what their buffers hold before.
-use crate::random::Random;
 use assignments::Literal;
+use random::Random;
+use runs::turn::Call;
 use std::alloc::{AllocError, Global};
-
-#[derive(Drop)]
-pub struct Question {
-    pub assumed: Vec<Literal>,
-    pub out: Vec<u8>,
-    pub ticks: Vec<u8>,
-}
-
-#[derive(Drop)]
-pub enum Call {
-    Size(usize),
-    Clause(Vec<Literal>),
-    Open,
-    Close,
-    Rewind,
-    Next(Vec<u8>),
-    Ask(Question),
-}
-
-#[derive(Clone, Copy)]
-enum Name {
-    Size,
-    Clause,
-    Open,
-    Close,
-    Rewind,
-    Next,
-    Ask,
-}
+use std::fmt;
 
 // Which calls a list has most of.
 #[derive(Clone, Copy)]
@@ -43,210 +16,248 @@ pub enum Mix {
     LongClauses,
 }
 
-const EVEN: [Name; 16] = [
+// The calls without their arguments.
+#[derive(Clone, Copy)]
+pub enum Name {
+    Size,
+    Clause,
+    Open,
+    Close,
+    Rewind,
+    Next,
+    Ask,
+}
+
+pub const NAMES: [Name; 7] = [
     Name::Size,
     Name::Clause,
-    Name::Clause,
-    Name::Clause,
-    Name::Clause,
     Name::Open,
     Name::Close,
     Name::Rewind,
     Name::Next,
-    Name::Next,
-    Name::Next,
-    Name::Next,
-    Name::Ask,
-    Name::Ask,
-    Name::Ask,
     Name::Ask,
 ];
 
-const LISTING: [Name; 16] = [
-    Name::Clause,
-    Name::Rewind,
-    Name::Ask,
-    Name::Next,
-    Name::Next,
-    Name::Next,
-    Name::Next,
-    Name::Next,
-    Name::Next,
-    Name::Next,
-    Name::Next,
-    Name::Next,
-    Name::Next,
-    Name::Next,
-    Name::Next,
-    Name::Next,
-];
-
-const OPENING: [Name; 8] = [
-    Name::Clause,
-    Name::Open,
-    Name::Open,
-    Name::Open,
-    Name::Open,
-    Name::Close,
-    Name::Next,
-    Name::Ask,
-];
-
-const FILLING: [Name; 16] = [
-    Name::Clause,
-    Name::Clause,
-    Name::Clause,
-    Name::Clause,
-    Name::Clause,
-    Name::Clause,
-    Name::Clause,
-    Name::Clause,
-    Name::Clause,
-    Name::Clause,
-    Name::Clause,
-    Name::Clause,
-    Name::Clause,
-    Name::Clause,
-    Name::Next,
-    Name::Ask,
-];
-
-fn one_of(random: &mut Random, names: &[Name]) -> Name {
-    let count = u8::try_from(names.len()).unwrap_or(255);
-    match names.get(usize::from(random.below(count))) {
-        Some(name) => *name,
-        None => Name::Next,
+impl Name {
+    pub fn of(call: &Call) -> Name {
+        match call {
+            Call::Size(_) => Name::Size,
+            Call::Clause(_) => Name::Clause,
+            Call::Open => Name::Open,
+            Call::Close => Name::Close,
+            Call::Rewind => Name::Rewind,
+            Call::Next(_) => Name::Next,
+            Call::Ask(_, _, _) => Name::Ask,
+        }
     }
 }
 
-fn pick(random: &mut Random, mix: Mix) -> Name {
-    match mix {
-        Mix::Even => one_of(random, &EVEN),
-        Mix::Listing => one_of(random, &LISTING),
-        Mix::Opening => one_of(random, &OPENING),
-        Mix::ShortClauses => one_of(random, &FILLING),
-        Mix::LongClauses => one_of(random, &FILLING),
+impl fmt::Display for Name {
+    fn fmt<W: fmt::Write>(&self, f: &mut fmt::Formatter<W>) -> fmt::Result {
+        match self {
+            Name::Size => write!(f, "size"),
+            Name::Clause => write!(f, "clause"),
+            Name::Open => write!(f, "open"),
+            Name::Close => write!(f, "close"),
+            Name::Rewind => write!(f, "rewind"),
+            Name::Next => write!(f, "next"),
+            Name::Ask => write!(f, "ask"),
+        }
     }
 }
 
-fn atoms_to_set(random: &mut Random) -> usize {
-    match random.below(16) {
-        0 => 201,
-        1 => usize::from(random.below(255)).saturating_add(201),
-        2 => usize::MAX,
-        _ => usize::from(random.below(7)),
+impl Mix {
+    pub fn of_list(list: u64) -> Mix {
+        match list % 16 {
+            0 => Mix::ShortClauses,
+            1 => Mix::LongClauses,
+            2..=4 => Mix::Opening,
+            5..=7 => Mix::Listing,
+            _ => Mix::Even,
+        }
+    }
+
+    // How many calls a list has.
+    pub fn length(self) -> u32 {
+        match self {
+            Mix::ShortClauses => 520,
+            Mix::LongClauses => 160,
+            _ => 120,
+        }
+    }
+
+    fn draw(self, random: &mut Random) -> Name {
+        match self {
+            Mix::Even => match random.below(16) {
+                0 => Name::Size,
+                1..=4 => Name::Clause,
+                5 => Name::Open,
+                6 => Name::Close,
+                7 => Name::Rewind,
+                8..=11 => Name::Next,
+                _ => Name::Ask,
+            },
+            Mix::Listing => match random.below(16) {
+                0 => Name::Clause,
+                1 => Name::Rewind,
+                2 => Name::Ask,
+                _ => Name::Next,
+            },
+            Mix::Opening => match random.below(8) {
+                0 => Name::Clause,
+                1..=4 => Name::Open,
+                5 => Name::Close,
+                6 => Name::Next,
+                _ => Name::Ask,
+            },
+            Mix::ShortClauses | Mix::LongClauses => match random.below(16) {
+                0..=13 => Name::Clause,
+                14 => Name::Next,
+                _ => Name::Ask,
+            },
+        }
     }
 }
 
-// A literal over the atoms, or, with no atom, 0.
-fn literal(random: &mut Random, atoms: u8) -> Literal {
-    let atom = i16::from(random.below(atoms)).saturating_add(i16::from(atoms > 0));
+// What a buffer may hold before a call: often a byte that could be an answer.
+fn byte(random: &mut Random) -> u8 {
     if random.one_in(2) {
-        atom.wrapping_neg()
-    } else {
-        atom
+        return random.below(3);
     }
+    random.below(255)
 }
 
-fn out_of_range(random: &mut Random, atoms: u8) -> Literal {
-    match random.below(6) {
-        0 => 0,
-        1 => i16::from(atoms).saturating_add(1),
-        2 => i16::from(atoms).saturating_add(1).wrapping_neg(),
-        3 => -201,
-        4 => i16::MAX,
-        _ => i16::MIN,
-    }
-}
-
-fn literals(
-    heap: Global,
-    random: &mut Random,
+// The calls of one list.
+#[derive(Drop)]
+pub struct Calls {
+    pub heap: Global,
+    random: Random,
+    pub mix: Mix,
+    // so many atoms the session has now
     atoms: u8,
-    count: u8,
-) -> Result<Vec<Literal>, AllocError> {
-    let mut literals = Vec::new(heap);
-    if random.one_in(16) {
-        literals.push(out_of_range(random, atoms))?;
-    }
-    if atoms > 0 {
-        for _ in 0..count {
-            literals.push(literal(random, atoms))?;
+}
+
+impl Calls {
+    pub fn new(heap: Global, random: Random, mix: Mix) -> Calls {
+        Calls {
+            heap,
+            random,
+            mix,
+            atoms: 0,
         }
     }
-    Ok(literals)
-}
 
-// A clause with both signs of one atom and some literals more, which rules nothing out.
-fn tautology(
-    heap: Global,
-    random: &mut Random,
-    atoms: u8,
-    most: u8,
-) -> Result<Vec<Literal>, AllocError> {
-    let count = random.below(most);
-    let mut clause = literals(heap, random, atoms, count)?;
-    if atoms > 0 {
-        let first = literal(random, atoms);
-        clause.push(first)?;
-        clause.push(first.wrapping_neg())?;
+    // Most lists begin with a size that is accepted, the others with a call that is refused.
+    pub fn first(&mut self, reach: u8) -> Call {
+        if matches!(self.mix, Mix::Even) && self.random.one_in(4) {
+            return Call::Rewind;
+        }
+        Call::Size(usize::from(reach.max(self.random.below(7))))
     }
-    Ok(clause)
-}
 
-fn clause(
-    heap: Global,
-    random: &mut Random,
-    atoms: u8,
-    mix: Mix,
-) -> Result<Vec<Literal>, AllocError> {
-    match mix {
-        Mix::ShortClauses => tautology(heap, random, atoms, 4),
-        Mix::LongClauses => tautology(heap, random, atoms, 40),
-        _ => {
-            let count = match random.below(32) {
-                0 => 0,
-                1..=4 => 1,
-                _ => random.below(3).saturating_add(2),
-            };
-            literals(heap, random, atoms, count)
+    // A call for a session that has so many atoms.
+    pub fn next(&mut self, atoms: u8) -> Result<Call, AllocError> {
+        self.atoms = atoms;
+        let call = match self.mix.draw(&mut self.random) {
+            Name::Size => Call::Size(self.atoms_to_set()),
+            Name::Clause => Call::Clause(self.clause()?),
+            Name::Open => Call::Open,
+            Name::Close => Call::Close,
+            Name::Rewind => Call::Rewind,
+            Name::Next => Call::Next(self.buffer(atoms)?),
+            Name::Ask => self.question()?,
+        };
+        Ok(call)
+    }
+
+    fn atoms_to_set(&mut self) -> usize {
+        match self.random.below(16) {
+            0 => 201,
+            1 => usize::from(self.random.below(255)).saturating_add(201),
+            2 => usize::MAX,
+            _ => usize::from(self.random.below(7)),
         }
     }
-}
 
-// A buffer that is mostly long enough for so many bytes.
-fn buffer(heap: Global, random: &mut Random, needed: u8) -> Result<Vec<u8>, AllocError> {
-    let count = match random.below(12) {
-        0 => random.below(needed),
-        1 => needed.saturating_sub(1),
-        2 => needed.saturating_add(1),
-        3 => needed.saturating_add(random.below(5)),
-        _ => needed,
-    };
-    random.bytes(heap, count)
-}
+    // A literal over the atoms, or, with no atom, 0.
+    fn literal(&mut self) -> Literal {
+        let place = i16::from(self.random.below(self.atoms));
+        let atom = place.saturating_add(i16::from(self.atoms > 0));
+        if self.random.one_in(2) {
+            atom.wrapping_neg()
+        } else {
+            atom
+        }
+    }
 
-fn draw_question(heap: Global, random: &mut Random, atoms: u8) -> Result<Question, AllocError> {
-    let count = random.below(6);
-    let assumed = literals(heap, random, atoms, count)?;
-    let needed = u8::try_from(assumed.len()).unwrap_or(255);
-    Ok(Question {
-        assumed,
-        out: buffer(heap, random, atoms)?,
-        ticks: buffer(heap, random, needed)?,
-    })
-}
+    fn out_of_range(&mut self) -> Literal {
+        match self.random.below(6) {
+            0 => 0,
+            1 => i16::from(self.atoms).saturating_add(1),
+            2 => i16::from(self.atoms).saturating_add(1).wrapping_neg(),
+            3 => -201,
+            4 => i16::MAX,
+            _ => i16::MIN,
+        }
+    }
 
-// A call for a session that has so many atoms.
-pub fn draw(heap: Global, random: &mut Random, mix: Mix, atoms: u8) -> Result<Call, AllocError> {
-    let call = match pick(random, mix) {
-        Name::Size => Call::Size(atoms_to_set(random)),
-        Name::Clause => Call::Clause(clause(heap, random, atoms, mix)?),
-        Name::Open => Call::Open,
-        Name::Close => Call::Close,
-        Name::Rewind => Call::Rewind,
-        Name::Next => Call::Next(buffer(heap, random, atoms)?),
-        Name::Ask => Call::Ask(draw_question(heap, random, atoms)?),
-    };
-    Ok(call)
+    fn literals(&mut self, count: u8) -> Result<Vec<Literal>, AllocError> {
+        let mut literals = Vec::new(self.heap);
+        if self.random.one_in(16) {
+            literals.push(self.out_of_range())?;
+        }
+        if self.atoms > 0 {
+            literals.extend((0..count).map(|_| self.literal()))?;
+        }
+        Ok(literals)
+    }
+
+    // A clause with both signs of one atom and some literals more, which rules nothing out.
+    fn tautology(&mut self, most: u8) -> Result<Vec<Literal>, AllocError> {
+        let count = self.random.below(most);
+        let mut clause = self.literals(count)?;
+        if self.atoms > 0 {
+            let first = self.literal();
+            clause.push(first)?;
+            clause.push(first.wrapping_neg())?;
+        }
+        Ok(clause)
+    }
+
+    fn clause(&mut self) -> Result<Vec<Literal>, AllocError> {
+        match self.mix {
+            Mix::ShortClauses => self.tautology(4),
+            Mix::LongClauses => self.tautology(40),
+            _ => {
+                let count = match self.random.below(32) {
+                    0 => 0,
+                    1..=4 => 1,
+                    _ => self.random.below(3).saturating_add(2),
+                };
+                self.literals(count)
+            }
+        }
+    }
+
+    // A buffer that is mostly long enough for so many bytes.
+    fn buffer(&mut self, needed: u8) -> Result<Vec<u8>, AllocError> {
+        let count = match self.random.below(12) {
+            0 => self.random.below(needed),
+            1 => needed.saturating_sub(1),
+            2 => needed.saturating_add(1),
+            3 => needed.saturating_add(self.random.below(5)),
+            _ => needed,
+        };
+        (0..count)
+            .map(|_| byte(&mut self.random))
+            .collect(self.heap)
+    }
+
+    fn question(&mut self) -> Result<Call, AllocError> {
+        let count = self.random.below(6);
+        let assumed = self.literals(count)?;
+        let needed = u8::try_from(assumed.len()).unwrap_or(255);
+        let out = self.buffer(self.atoms)?;
+        Ok(Call::Ask(assumed, out, self.buffer(needed)?))
+    }
 }

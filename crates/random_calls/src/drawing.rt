@@ -1,10 +1,11 @@
 // Random arcs and rows for each kind of veto.
-use crate::random::Random;
 use crate::rules::Rules;
 use cycles::arc::Arc;
 use loads::kind::{Lines, Milliamperes};
 use loads::row::Row;
+use random::Random;
 use std::alloc::{AllocError, Global};
+use std::fmt;
 
 #[derive(Clone, Copy)]
 pub enum Kind {
@@ -15,14 +16,14 @@ pub enum Kind {
     CycleAndCurrent,
 }
 
-impl Kind {
-    pub fn name(self) -> &'static str {
+impl fmt::Display for Kind {
+    fn fmt<W: fmt::Write>(&self, f: &mut fmt::Formatter<W>) -> fmt::Result {
         match self {
-            Kind::Mute => "mute",
-            Kind::Cycle => "cycle",
-            Kind::Current => "load of milliamperes",
-            Kind::Lines => "load of lines",
-            Kind::CycleAndCurrent => "pair of cycle and load",
+            Kind::Mute => write!(f, "mute"),
+            Kind::Cycle => write!(f, "cycle"),
+            Kind::Current => write!(f, "load of milliamperes"),
+            Kind::Lines => write!(f, "load of lines"),
+            Kind::CycleAndCurrent => write!(f, "pair of cycle and load"),
         }
     }
 }
@@ -46,84 +47,55 @@ fn signal(random: &mut Random) -> u8 {
     }
 }
 
-fn arcs(heap: Global, random: &mut Random, top: u8) -> Result<Vec<Arc>, AllocError> {
-    let mut arcs = Vec::new(heap);
-    for _ in 0..random.below(9) {
-        let arc = Arc {
-            atom: atom(random, top),
-            from: signal(random),
-            to: signal(random),
-        };
-        arcs.push(arc)?;
-    }
-    Ok(arcs)
-}
-
-fn current(random: &mut Random) -> Milliamperes {
-    match random.below(16) {
-        0 => 0,
-        1 => 4294967295,
-        2 => 4294967294,
-        _ => u32::from(random.below(20)),
+fn arc(random: &mut Random, top: u8) -> Arc {
+    Arc {
+        atom: atom(random, top),
+        from: signal(random),
+        to: signal(random),
     }
 }
 
-fn currents(
-    heap: Global,
-    random: &mut Random,
-    top: u8,
-) -> Result<Vec<Row<Milliamperes>>, AllocError> {
-    let mut rows = Vec::new(heap);
-    for _ in 0..random.below(8) {
-        let row = Row {
-            atom: atom(random, top),
-            load: current(random),
-        };
-        rows.push(row)?;
-    }
-    Ok(rows)
-}
-
-fn line(random: &mut Random) -> Lines {
-    match random.below(6) {
-        0 => 1,
-        1 => 2,
-        2 => 256,
-        3 => 32768,
-        4 => 32770,
-        _ => u16::from(random.below(8)),
+fn current(random: &mut Random, top: u8) -> Row<Milliamperes> {
+    Row {
+        atom: atom(random, top),
+        load: match random.below(16) {
+            0 => 0,
+            1 => 4294967295,
+            2 => 4294967294,
+            _ => u32::from(random.below(20)),
+        },
     }
 }
 
-fn lines(heap: Global, random: &mut Random, top: u8) -> Result<Vec<Row<Lines>>, AllocError> {
-    let mut rows = Vec::new(heap);
-    for _ in 0..random.below(8) {
-        let row = Row {
-            atom: atom(random, top),
-            load: line(random),
-        };
-        rows.push(row)?;
+fn lines(random: &mut Random, top: u8) -> Row<Lines> {
+    Row {
+        atom: atom(random, top),
+        load: match random.below(6) {
+            0 => 1,
+            1 => 2,
+            2 => 256,
+            3 => 32768,
+            4 => 32770,
+            _ => u16::from(random.below(8)),
+        },
     }
-    Ok(rows)
 }
 
 // The atoms lie at most at a random top, so that the reach differs from list to list.
 pub fn rules(heap: Global, random: &mut Random, kind: Kind) -> Result<Rules, AllocError> {
     let top = random.below(6).saturating_add(1);
-    let mut rules = Rules {
-        arcs: Vec::new(heap),
-        currents: Vec::new(heap),
-        lines: Vec::new(heap),
-    };
-    match kind {
-        Kind::Mute => {}
-        Kind::Cycle => rules.arcs = arcs(heap, random, top)?,
-        Kind::Current => rules.currents = currents(heap, random, top)?,
-        Kind::Lines => rules.lines = lines(heap, random, top)?,
-        Kind::CycleAndCurrent => {
-            rules.arcs = arcs(heap, random, top)?;
-            rules.currents = currents(heap, random, top)?;
-        }
+    let mut rules = Rules::none(heap);
+    if matches!(kind, Kind::Cycle | Kind::CycleAndCurrent) {
+        let arcs = 0..random.below(9);
+        rules.arcs = arcs.map(|_| arc(random, top)).collect(heap)?;
+    }
+    if matches!(kind, Kind::Current | Kind::CycleAndCurrent) {
+        let rows = 0..random.below(8);
+        rules.currents = rows.map(|_| current(random, top)).collect(heap)?;
+    }
+    if matches!(kind, Kind::Lines) {
+        let rows = 0..random.below(8);
+        rules.lines = rows.map(|_| lines(random, top)).collect(heap)?;
     }
     Ok(rules)
 }

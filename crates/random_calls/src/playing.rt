@@ -1,226 +1,167 @@
-// One call on a session, and the same call on the model: what was answered, and whether that is right in every byte.
-use crate::calls::{Call, Question};
-use crate::model::{Due, Model};
+// A session and the model of it, which play the same calls: what comes back, and whether it is right in every byte.
+use crate::model::Model;
+use crate::rules::Rules;
 use assignments::Literal;
-use refusals::Refusal;
+use runs::play::apply;
+use runs::turn::{Call, Done, Reply};
 use session::session::Session;
-use session::table::{Step, Wish};
 use std::alloc::{AllocError, Global};
 use vetoes::veto::Veto;
 
 #[derive(Clone, Copy)]
-pub enum Answer {
-    Accepted,
-    Handed,
-    NoMore,
-    Chosen,
-    // with so many assumptions ticked
-    Clash(usize),
-    Refused(Refusal),
-}
-
-#[derive(Clone, Copy)]
 pub struct Outcome {
-    pub answer: Answer,
+    pub reply: Reply,
     pub right: bool,
 }
 
-fn of_setting(answer: Result<(), Refusal>, due: Option<Refusal>) -> Outcome {
-    let right = answer.err() == due;
-    let answer = match answer {
-        Ok(()) => Answer::Accepted,
-        Err(refusal) => Answer::Refused(refusal),
-    };
-    Outcome { answer, right }
+// What the buffers of a call hold: none where it has no such buffer.
+#[derive(Drop)]
+struct Buffers {
+    out: Vec<u8>,
+    ticks: Vec<u8>,
+}
+
+impl Buffers {
+    fn of(heap: Global, call: &Call) -> Result<Buffers, AllocError> {
+        let mut buffers = Buffers {
+            out: Vec::new(heap),
+            ticks: Vec::new(heap),
+        };
+        match call {
+            Call::Next(out) => buffers.out = out.clone()?,
+            Call::Ask(_, out, ticks) => {
+                buffers.out = out.clone()?;
+                buffers.ticks = ticks.clone()?;
+            }
+            _ => {}
+        }
+        Ok(buffers)
+    }
 }
 
 // Whether a buffer has the front, and behind it what it had before.
 fn is_written(front: &[u8], before: &[u8], after: &[u8]) -> bool {
-    if before.len() != after.len() || before.len() < front.len() {
-        return false;
+    match after.strip_prefix(front) {
+        Some(rest) => before.get(front.len()..) == Some(rest),
+        None => false,
     }
-    for (place, (old, new)) in before.iter().zip(after.iter()).enumerate() {
-        if front.get(place).copied().unwrap_or(*old) != *new {
-            return false;
-        }
-    }
-    true
 }
 
-fn next<V: Veto>(
+// Whether each tick of so many assumptions is 0 or 1, and the bytes past these are as before.
+fn are_ticks(count: usize, before: &[u8], after: &[u8]) -> bool {
+    after.len() == before.len()
+        && after.get(count..) == before.get(count..)
+        && after.iter().take(count).all(|tick| *tick <= 1)
+}
+
+// The ticked assumptions.
+fn ticked(heap: Global, assumed: &[Literal], ticks: &[u8]) -> Result<Vec<Literal>, AllocError> {
+    let pairs = assumed.iter().zip(ticks.iter());
+    let ones = pairs.filter(|(_, tick)| **tick == 1);
+    ones.map(|(literal, _)| *literal).collect(heap)
+}
+
+// The core without the assumption at the place.
+fn without(heap: Global, core: &[Literal], place: usize) -> Result<Vec<Literal>, AllocError> {
+    let others = core.iter().enumerate().filter(|(at, _)| *at != place);
+    others.map(|(_, literal)| *literal).collect(heap)
+}
+
+#[derive(Drop)]
+pub struct Trial<'a, V: Veto> {
     heap: Global,
-    session: &mut Session<V>,
-    model: &mut Model<'_>,
-    before: &[u8],
-) -> Result<Outcome, AllocError> {
-    let mut out = Vec::from_slice(heap, before)?;
-    let answered = session.next(out.as_mut_slice());
-    let due = model.next(before.len());
-    let stays = is_written(&[], before, out.as_slice());
-    let outcome = match answered {
-        Ok(Step::Handed) => Outcome {
-            answer: Answer::Handed,
-            right: match due {
-                Due::Case(index) => match model.case(index) {
-                    Some(case) => is_written(case.bytes.as_slice(), before, out.as_slice()),
-                    None => false,
-                },
-                _ => false,
+    session: Session<V>,
+    model: Model<'a>,
+}
+
+impl<'a, V: Veto> Trial<'a, V> {
+    pub fn new(heap: Global, veto: V, rules: &'a Rules) -> Trial<'a, V> {
+        Trial {
+            heap,
+            session: Session::new(veto),
+            model: Model::new(heap, rules),
+        }
+    }
+
+    pub fn atoms(&self) -> u8 {
+        u8::try_from(self.model.atoms()).unwrap_or(0)
+    }
+
+    pub fn play(&mut self, call: &mut Call) -> Result<Outcome, AllocError> {
+        let before = Buffers::of(self.heap, call)?;
+        let reply = apply(&mut self.session, call);
+        let right = self.is_right(call, &before, reply)?;
+        Ok(Outcome { reply, right })
+    }
+
+    // Whether the reply is the model's, with what the buffers of the call hold now and held before.
+    fn is_right(
+        &mut self,
+        call: &Call,
+        before: &Buffers,
+        reply: Reply,
+    ) -> Result<bool, AllocError> {
+        let due = match call {
+            Call::Size(atoms) => self.model.size(*atoms)?,
+            Call::Clause(literals) => self.model.clause(literals.as_slice())?,
+            Call::Open => self.model.open()?,
+            Call::Close => self.model.close(),
+            Call::Rewind => self.model.rewind(),
+            Call::Next(out) => return Ok(self.is_right_next(out.as_slice(), before, reply)),
+            Call::Ask(assumed, out, ticks) => {
+                return self.is_right_ask(assumed, out, ticks, before, reply);
+            }
+        };
+        Ok(reply == due.map(|()| Done::Accepted))
+    }
+
+    fn is_right_next(&mut self, out: &[u8], before: &Buffers, reply: Reply) -> bool {
+        let before = before.out.as_slice();
+        match self.model.next(before.len()) {
+            Ok(Some(index)) => match self.model.assignment(index) {
+                Some(bytes) => reply == Ok(Done::Handed) && is_written(bytes, before, out),
+                None => false,
             },
-        },
-        Ok(Step::NoMore) => Outcome {
-            answer: Answer::NoMore,
-            right: matches!(due, Due::NoMore) && stays,
-        },
-        Err(refusal) => Outcome {
-            answer: Answer::Refused(refusal),
-            right: match due {
-                Due::Refusal(expected) => expected == refusal && stays,
-                _ => false,
-            },
-        },
-    };
-    Ok(outcome)
-}
-
-// The ticked assumptions, but for the one with the index to leave out.
-fn ticked(
-    heap: Global,
-    assumed: &[Literal],
-    ticks: &[u8],
-    leave_out: usize,
-) -> Result<Vec<Literal>, AllocError> {
-    let mut core = Vec::new(heap);
-    for (index, (literal, tick)) in assumed.iter().zip(ticks.iter()).enumerate() {
-        if *tick == 1 && index != leave_out {
-            core.push(*literal)?;
+            Ok(None) => reply == Ok(Done::NoMore) && out == before,
+            Err(refusal) => reply == Err(refusal) && out == before,
         }
     }
-    Ok(core)
-}
 
-// Whether each tick of an assumption is 0 or 1, and the bytes past these are as before.
-fn are_ticks(assumed: &[Literal], before: &[u8], after: &[u8]) -> bool {
-    if before.len() != after.len() {
-        return false;
-    }
-    for (place, (old, new)) in before.iter().zip(after.iter()).enumerate() {
-        if place < assumed.len() && *new > 1 {
-            return false;
+    fn is_right_ask(
+        &self,
+        assumed: &[Literal],
+        out: &[u8],
+        ticks: &[u8],
+        before: &Buffers,
+        reply: Reply,
+    ) -> Result<bool, AllocError> {
+        let old_out = before.out.as_slice();
+        let old_ticks = before.ticks.as_slice();
+        match self.model.ask(assumed, old_out.len(), old_ticks.len()) {
+            Ok(Some(bytes)) => {
+                let written = is_written(bytes, old_out, out);
+                Ok(reply == Ok(Done::Chosen) && written && ticks == old_ticks)
+            }
+            Ok(None) => {
+                let told = out == old_out && are_ticks(assumed.len(), old_ticks, ticks);
+                let core = ticked(self.heap, assumed, ticks)?;
+                Ok(reply == Ok(Done::Clash) && told && self.is_core(core.as_slice())?)
+            }
+            Err(refusal) => Ok(reply == Err(refusal) && out == old_out && ticks == old_ticks),
         }
-        if place >= assumed.len() && *new != *old {
-            return false;
-        }
     }
-    true
-}
 
-// No admitted case includes all that are ticked, and for each of these one includes the others.
-fn is_core(
-    heap: Global,
-    model: &Model<'_>,
-    assumed: &[Literal],
-    ticks: &[u8],
-) -> Result<bool, AllocError> {
-    let all = ticked(heap, assumed, ticks, usize::MAX)?;
-    if model.least_including(all.as_slice()).is_some() {
-        return Ok(false);
-    }
-    for (index, tick) in ticks.iter().take(assumed.len()).enumerate() {
-        if *tick == 1 {
-            let others = ticked(heap, assumed, ticks, index)?;
-            if model.least_including(others.as_slice()).is_none() {
+    // No admitted assignment includes all literals, and for each of these one includes the others.
+    fn is_core(&self, literals: &[Literal]) -> Result<bool, AllocError> {
+        if self.model.least_including(literals).is_some() {
+            return Ok(false);
+        }
+        for place in 0..literals.len() {
+            let others = without(self.heap, literals, place)?;
+            if self.model.least_including(others.as_slice()).is_none() {
                 return Ok(false);
             }
         }
-    }
-    Ok(true)
-}
-
-// Whether the answer to a question is right, with what its buffers hold then.
-fn is_right(
-    heap: Global,
-    model: &Model<'_>,
-    question: &Question,
-    answered: Result<Wish, Refusal>,
-    out: &[u8],
-    ticks: &[u8],
-) -> Result<bool, AllocError> {
-    let assumed = question.assumed.as_slice();
-    let old_out = question.out.as_slice();
-    let old_ticks = question.ticks.as_slice();
-    let due = model.ask_refusal(assumed, old_out.len(), old_ticks.len());
-    let out_stays = is_written(&[], old_out, out);
-    let ticks_stay = is_written(&[], old_ticks, ticks);
-    match answered {
-        Ok(Wish::Chosen) => match model.least_including(assumed) {
-            Some(case) => {
-                let written = is_written(case.bytes.as_slice(), old_out, out);
-                Ok(due.is_none() && written && ticks_stay)
-            }
-            None => Ok(false),
-        },
-        Ok(Wish::Clash) => {
-            let told = due.is_none() && out_stays && are_ticks(assumed, old_ticks, ticks);
-            Ok(told && is_core(heap, model, assumed, ticks)?)
-        }
-        Err(refusal) => Ok(due == Some(refusal) && out_stays && ticks_stay),
-    }
-}
-
-fn ask<V: Veto>(
-    heap: Global,
-    session: &mut Session<V>,
-    model: &Model<'_>,
-    question: &Question,
-) -> Result<Outcome, AllocError> {
-    let mut out = Vec::from_slice(heap, question.out.as_slice())?;
-    let mut ticks = Vec::from_slice(heap, question.ticks.as_slice())?;
-    let answered = session.ask(
-        question.assumed.as_slice(),
-        out.as_mut_slice(),
-        ticks.as_mut_slice(),
-    );
-    let right = is_right(
-        heap,
-        model,
-        question,
-        answered,
-        out.as_slice(),
-        ticks.as_slice(),
-    )?;
-    let answer = match answered {
-        Ok(Wish::Chosen) => Answer::Chosen,
-        Ok(Wish::Clash) => {
-            let core = ticked(
-                heap,
-                question.assumed.as_slice(),
-                ticks.as_slice(),
-                usize::MAX,
-            )?;
-            Answer::Clash(core.len())
-        }
-        Err(refusal) => Answer::Refused(refusal),
-    };
-    Ok(Outcome { answer, right })
-}
-
-pub fn play<V: Veto>(
-    heap: Global,
-    session: &mut Session<V>,
-    model: &mut Model<'_>,
-    call: &Call,
-) -> Result<Outcome, AllocError> {
-    match call {
-        Call::Size(atoms) => Ok(of_setting(session.size(*atoms), model.size(heap, *atoms)?)),
-        Call::Clause(literals) => {
-            let answer = session.clause(literals.as_slice());
-            Ok(of_setting(answer, model.clause(heap, literals.as_slice())?))
-        }
-        Call::Open => Ok(of_setting(session.open(), model.open()?)),
-        Call::Close => Ok(of_setting(session.close(), model.close())),
-        Call::Rewind => Ok(of_setting(session.rewind(), model.rewind())),
-        Call::Next(before) => next(heap, session, model, before.as_slice()),
-        Call::Ask(question) => ask(heap, session, model, question),
+        Ok(true)
     }
 }

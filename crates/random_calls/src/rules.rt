@@ -17,8 +17,9 @@ pub struct Rules {
     pub lines: Vec<Row<Lines>>,
 }
 
+// Whether the number is one of 1, 2 and so on up to the limit.
 fn in_range(number: u8, limit: u8) -> bool {
-    number >= 1 && number <= limit
+    (1..=limit).contains(&number)
 }
 
 fn is_true(assignment: &[u8], atom: AtomNumber) -> bool {
@@ -34,33 +35,18 @@ fn counts(arc: &Arc) -> bool {
 
 // The arcs that are there at the assignment.
 fn arcs_at(heap: Global, arcs: &[Arc], assignment: &[u8]) -> Result<Vec<Arc>, AllocError> {
-    let mut there = Vec::new(heap);
-    for arc in arcs {
-        if counts(arc) && is_true(assignment, arc.atom) {
-            there.push(*arc)?;
-        }
-    }
-    Ok(there)
+    let there = |arc: &Arc| counts(arc) && is_true(assignment, arc.atom);
+    arcs.iter().copied().filter(there).collect(heap)
 }
 
 fn leads_on(arcs: &[Arc], signal: u8) -> bool {
-    for arc in arcs {
-        if arc.from == signal {
-            return true;
-        }
-    }
-    false
+    arcs.iter().any(|arc| arc.from == signal)
 }
 
 // The arcs after which another one of them can follow.
 fn followed(heap: Global, arcs: &[Arc]) -> Result<Vec<Arc>, AllocError> {
-    let mut left = Vec::new(heap);
-    for arc in arcs {
-        if leads_on(arcs, arc.to) {
-            left.push(*arc)?;
-        }
-    }
-    Ok(left)
+    let is_followed = |arc: &Arc| leads_on(arcs, arc.to);
+    arcs.iter().copied().filter(is_followed).collect(heap)
 }
 
 // An arc that none follows is on no closed chain. Once such arcs are taken away, as often as there are arcs, what is left can be
@@ -78,12 +64,9 @@ fn are_too_much(rows: &[Row<Milliamperes>], assignment: &[u8]) -> bool {
     let [limit, later @ ..] = rows else {
         return false;
     };
-    let mut sum = 0u64;
-    for row in later {
-        if is_true(assignment, row.atom) {
-            sum = sum.saturating_add(u64::from(row.load));
-        }
-    }
+    let there = later.iter().filter(|row| is_true(assignment, row.atom));
+    let loads = there.map(|row| u64::from(row.load));
+    let sum = loads.fold(0, |sum: u64, load| sum.saturating_add(load));
     sum.min(u64::from(u32::MAX)) > u64::from(limit.load)
 }
 
@@ -92,12 +75,8 @@ fn has_line(load: Lines, line: u32) -> bool {
 }
 
 fn use_line(rows: &[Row<Lines>], assignment: &[u8], line: u32) -> bool {
-    for row in rows {
-        if is_true(assignment, row.atom) && has_line(row.load, line) {
-            return true;
-        }
-    }
-    false
+    let mut there = rows.iter().filter(|row| is_true(assignment, row.atom));
+    there.any(|row| has_line(row.load, line))
 }
 
 // More different lines than the limit has.
@@ -105,21 +84,24 @@ fn are_too_many(rows: &[Row<Lines>], assignment: &[u8]) -> bool {
     let [limit, later @ ..] = rows else {
         return false;
     };
-    let mut used = 0u8;
-    let mut allowed = 0u8;
-    for line in 0..16 {
-        used = used.wrapping_add(u8::from(use_line(later, assignment, line)));
-        allowed = allowed.wrapping_add(u8::from(has_line(limit.load, line)));
-    }
-    used > allowed
+    let used = (0..16).filter(|line| use_line(later, assignment, *line));
+    let allowed = (0..16).filter(|line| has_line(limit.load, *line));
+    used.count() > allowed.count()
 }
 
 impl Rules {
-    pub fn rule_out(&self, heap: Global, assignment: &[u8]) -> Result<bool, AllocError> {
-        if are_too_much(self.currents.as_slice(), assignment) {
-            return Ok(true);
+    pub fn none(heap: Global) -> Rules {
+        Rules {
+            arcs: Vec::new(heap),
+            currents: Vec::new(heap),
+            lines: Vec::new(heap),
         }
-        if are_too_many(self.lines.as_slice(), assignment) {
+    }
+
+    pub fn rule_out(&self, heap: Global, assignment: &[u8]) -> Result<bool, AllocError> {
+        if are_too_much(self.currents.as_slice(), assignment)
+            || are_too_many(self.lines.as_slice(), assignment)
+        {
             return Ok(true);
         }
         close_a_chain(heap, arcs_at(heap, self.arcs.as_slice(), assignment)?)
@@ -127,22 +109,13 @@ impl Rules {
 
     // The highest atom that counts. The first row of a load is its limit, and its atom does not count.
     pub fn reach(&self) -> u8 {
-        let mut top = 0;
-        for arc in self.arcs.as_slice() {
-            if counts(arc) {
-                top = top.max(arc.atom);
-            }
-        }
-        for row in self.currents.as_slice().iter().skip(1) {
-            if in_range(row.atom, ATOMS) {
-                top = top.max(row.atom);
-            }
-        }
-        for row in self.lines.as_slice().iter().skip(1) {
-            if in_range(row.atom, ATOMS) {
-                top = top.max(row.atom);
-            }
-        }
-        top
+        let arcs = self.arcs.iter().filter(|arc| counts(arc));
+        let currents = self.currents.iter().skip(1).map(|row| row.atom);
+        let lines = self.lines.iter().skip(1).map(|row| row.atom);
+        let atoms = arcs.map(|arc| arc.atom).chain(currents).chain(lines);
+        atoms
+            .filter(|atom| in_range(*atom, ATOMS))
+            .max()
+            .unwrap_or(0)
     }
 }

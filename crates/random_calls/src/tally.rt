@@ -1,96 +1,110 @@
 // How many calls were played, by call and by answer.
-use crate::calls::Call;
-use crate::playing::{Answer, Outcome};
+use crate::calls::{NAMES, Name};
+use crate::playing::Outcome;
+use runs::turn::{Call, Done};
 use std::fmt;
 
 // The refusals that a session has are numbered from 1 to 9.
 const NUMBERS: usize = 10;
 
-#[derive(Drop)]
-pub struct Tally {
-    calls: u32,
-    size: u32,
-    clause: u32,
-    open: u32,
-    close: u32,
-    rewind: u32,
-    next: u32,
-    ask: u32,
-    accepted: u32,
-    handed: u32,
-    no_more: u32,
-    chosen: u32,
+// The answers but for the refusals.
+#[derive(Clone, Copy)]
+enum Answer {
+    Accepted,
+    HandedOut,
+    NoMore,
+    Chosen,
     // by the number of assumptions in the core: none, one, or more
-    clash_of_none: u32,
-    clash_of_one: u32,
-    clash_of_more: u32,
-    refused: [u32; NUMBERS],
-    mismatches: u32,
+    ClashOfNone,
+    ClashOfOne,
+    ClashOfMore,
 }
 
-fn count(number: &mut u32) {
-    *number = number.saturating_add(1);
+const ANSWERS: [Answer; 7] = [
+    Answer::Accepted,
+    Answer::HandedOut,
+    Answer::NoMore,
+    Answer::Chosen,
+    Answer::ClashOfNone,
+    Answer::ClashOfOne,
+    Answer::ClashOfMore,
+];
+
+impl fmt::Display for Answer {
+    fn fmt<W: fmt::Write>(&self, f: &mut fmt::Formatter<W>) -> fmt::Result {
+        match self {
+            Answer::Accepted => write!(f, "accepted"),
+            Answer::HandedOut => write!(f, "handed out"),
+            Answer::NoMore => write!(f, "no more"),
+            Answer::Chosen => write!(f, "chosen"),
+            Answer::ClashOfNone => write!(f, "clash with a core of none"),
+            Answer::ClashOfOne => write!(f, "of one"),
+            Answer::ClashOfMore => write!(f, "of more"),
+        }
+    }
+}
+
+// How many ticks the call has.
+fn count_ticks(call: &Call) -> usize {
+    match call {
+        Call::Ask(assumed, _, ticks) => {
+            let counted = ticks.iter().take(assumed.len());
+            counted.filter(|tick| **tick == 1).count()
+        }
+        _ => 0,
+    }
+}
+
+impl Answer {
+    // What was done, with the call as it stands afterwards.
+    fn of(done: Done, call: &Call) -> Answer {
+        match done {
+            Done::Accepted => Answer::Accepted,
+            Done::Handed => Answer::HandedOut,
+            Done::NoMore => Answer::NoMore,
+            Done::Chosen => Answer::Chosen,
+            Done::Clash => match count_ticks(call) {
+                0 => Answer::ClashOfNone,
+                1 => Answer::ClashOfOne,
+                _ => Answer::ClashOfMore,
+            },
+        }
+    }
+}
+
+fn count(numbers: &mut [u32], place: usize) {
+    if let Some(number) = numbers.get_mut(place) {
+        *number = number.saturating_add(1);
+    }
+}
+
+#[derive(Drop)]
+pub struct Tally {
+    calls: [u32; NAMES.len()],
+    answers: [u32; ANSWERS.len()],
+    // by number
+    refused: [u32; NUMBERS],
+    mismatches: u32,
 }
 
 impl Tally {
     pub fn new() -> Tally {
         Tally {
-            calls: 0,
-            size: 0,
-            clause: 0,
-            open: 0,
-            close: 0,
-            rewind: 0,
-            next: 0,
-            ask: 0,
-            accepted: 0,
-            handed: 0,
-            no_more: 0,
-            chosen: 0,
-            clash_of_none: 0,
-            clash_of_one: 0,
-            clash_of_more: 0,
+            calls: [0; NAMES.len()],
+            answers: [0; ANSWERS.len()],
             refused: [0; NUMBERS],
             mismatches: 0,
         }
     }
 
-    fn count_call(&mut self, call: &Call) {
-        count(&mut self.calls);
-        match call {
-            Call::Size(_) => count(&mut self.size),
-            Call::Clause(_) => count(&mut self.clause),
-            Call::Open => count(&mut self.open),
-            Call::Close => count(&mut self.close),
-            Call::Rewind => count(&mut self.rewind),
-            Call::Next(_) => count(&mut self.next),
-            Call::Ask(_) => count(&mut self.ask),
-        }
-    }
-
-    fn count_answer(&mut self, answer: Answer) {
-        match answer {
-            Answer::Accepted => count(&mut self.accepted),
-            Answer::Handed => count(&mut self.handed),
-            Answer::NoMore => count(&mut self.no_more),
-            Answer::Chosen => count(&mut self.chosen),
-            Answer::Clash(0) => count(&mut self.clash_of_none),
-            Answer::Clash(1) => count(&mut self.clash_of_one),
-            Answer::Clash(_) => count(&mut self.clash_of_more),
-            Answer::Refused(refusal) => {
-                let number = usize::from(refusal.number());
-                if number < NUMBERS {
-                    count(&mut self.refused[number]);
-                }
-            }
-        }
-    }
-
     pub fn add(&mut self, call: &Call, outcome: Outcome) {
-        self.count_call(call);
-        self.count_answer(outcome.answer);
+        count(&mut self.calls, Name::of(call) as usize);
+        match outcome.reply {
+            Ok(done) => count(&mut self.answers, Answer::of(done, call) as usize),
+            Err(refusal) => count(&mut self.refused, usize::from(refusal.number())),
+        }
         if !outcome.right {
-            count(&mut self.mismatches);
+            self.mismatches = self.mismatches.saturating_add(1);
         }
     }
 
@@ -99,21 +113,29 @@ impl Tally {
     }
 }
 
+// Each number behind its name.
+fn list<T: fmt::Display, W: fmt::Write>(
+    f: &mut fmt::Formatter<W>,
+    names: &[T],
+    numbers: &[u32],
+) -> fmt::Result {
+    for (place, (name, number)) in names.iter().zip(numbers.iter()).enumerate() {
+        if place > 0 {
+            write!(f, ", ")?;
+        }
+        write!(f, "{name} {number}")?;
+    }
+    Ok(())
+}
+
 impl fmt::Display for Tally {
     fn fmt<W: fmt::Write>(&self, f: &mut fmt::Formatter<W>) -> fmt::Result {
-        write!(f, "{} calls; size {}, ", self.calls, self.size)?;
-        write!(f, "clause {}, ", self.clause)?;
-        write!(f, "open {}, close {}, ", self.open, self.close)?;
-        write!(f, "rewind {}, next {}, ", self.rewind, self.next)?;
-        write!(f, "ask {}; accepted {}, ", self.ask, self.accepted)?;
-        write!(f, "handed out {}, no more {}, ", self.handed, self.no_more)?;
-        write!(f, "chosen {}, ", self.chosen)?;
-        write!(f, "clash with a core of none {}, ", self.clash_of_none)?;
-        write!(
-            f,
-            "of one {}, of more {}",
-            self.clash_of_one, self.clash_of_more
-        )?;
+        let calls = self.calls.iter();
+        let all = calls.fold(0, |all: u32, number| all.saturating_add(*number));
+        write!(f, "{all} calls; ")?;
+        list(f, &NAMES, &self.calls)?;
+        write!(f, "; ")?;
+        list(f, &ANSWERS, &self.answers)?;
         for (number, count) in self.refused.iter().enumerate().skip(1) {
             write!(f, ", refused {number}: {count}")?;
         }

@@ -1,13 +1,16 @@
 // Why a call or a text is refused: the refusals in their order, each with its number and its text.
 #![tactic(auto)]
 
-ghost use Rattle.std.specs.Prelude.{◌≡◌};
+ghost use Rattle.std.specs.Prelude.{◌≡◌, Some};
 ghost use Rattle.refusals.specs.Refusals.{number_of, text_of, outside};
 
-// In the order of the list: where several apply, the earliest is the answer.
+use std::error::Error;
+use std::fmt;
+
+// In the order of the list, counted from 1: where several apply, the earliest is the answer.
 #[derive(Clone, Copy, PartialEq, Eq, Debug)]
 pub enum Refusal {
-    NotSized,
+    NotSized = 1,
     BufferShort,
     CountOutOfRange,
     ReachOutOfRange,
@@ -30,25 +33,7 @@ impl Refusal {
     pub fn number(self) -> u8
         ensures { result ≡ number_of self }
     {
-        match self {
-            Refusal::NotSized => 1,
-            Refusal::BufferShort => 2,
-            Refusal::CountOutOfRange => 3,
-            Refusal::ReachOutOfRange => 4,
-            Refusal::LiteralOutOfRange => 5,
-            Refusal::ClauseTableFull => 6,
-            Refusal::LiteralTableFull => 7,
-            Refusal::ScopeTableFull => 8,
-            Refusal::NoScope => 9,
-            Refusal::TextTooLong => 10,
-            Refusal::BadByte => 11,
-            Refusal::BadNumber => 12,
-            Refusal::BadHeading => 13,
-            Refusal::BadContents => 14,
-            Refusal::BadBody => 15,
-            Refusal::RowRefused => 16,
-            Refusal::BadEnd => 17,
-        }
+        self as u8
     }
 
     pub fn text(self) -> &'static str
@@ -75,6 +60,16 @@ impl Refusal {
         }
     }
 }
+
+impl fmt::Display for Refusal {
+    ghost output = { λ refusal. Some (text_of refusal) };
+
+    fn fmt<W: fmt::Write>(&self, f: &mut fmt::Formatter<W>) -> fmt::Result {
+        f.write_str(self.text())
+    }
+}
+
+impl Error for Refusal {}
 
 // A refusal with what is known of its place: the refusal below that caused it, the line of the text and the letter of the body.
 #[derive(Clone, Copy, PartialEq, Eq, Debug)]

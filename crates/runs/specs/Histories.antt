@@ -7,8 +7,8 @@ use Rattle.session.specs.declared.table.Step.{Step}
 use Rattle.session.specs.declared.table.Wish.{Wish}
 use Rattle.runs.specs.declared.turn.Call.{Call}
 use Rattle.runs.specs.declared.turn.Call.TheVariants.{Size, Clause, Open, Close, Rewind, Next, Ask}
-use Rattle.runs.specs.declared.turn.Reply.{Reply}
-use Rattle.runs.specs.declared.turn.Reply.TheVariants.{Accepted, Handed, NoMore, Chosen, Clash, Refused}
+use Rattle.runs.specs.declared.turn.Done.{Done}
+use Rattle.runs.specs.declared.turn.Done.TheVariants.{Accepted, Handed, NoMore, Chosen, Clash}
 use Rattle.runs.specs.declared.turn.Turn.{Turn}
 
 -- the call with its arguments and what its buffers hold
@@ -35,29 +35,23 @@ asked (Ask a out ticks) = ask (vec_items a) [] []
 abbrev pub buffer : Call → ℕ → List ℕ
 buffer c i = slice_index_or (buffers (called c)) i []
 
--- the answer, with what the buffers of the call c hold after it
-abbrev pub answer : Reply → Call → Answer
-answer Accepted c = accepted
-answer Handed c = handed_out (buffer c 0)
-answer NoMore c = no_more (buffer c 0)
-answer Chosen c = chosen (buffer c 0) (buffer c 1)
-answer Clash c = clash (buffer c 0) (buffer c 1)
-answer (Refused e) c = refused e (buffers (called c))
+-- the answer that a reply is, with what the buffers of the call c hold after it
+abbrev pub answer : Result Done Refusal → Call → Answer
+answer (Ok Accepted) c = accepted
+answer (Ok Handed) c = handed_out (buffer c 0)
+answer (Ok NoMore) c = no_more (buffer c 0)
+answer (Ok Chosen) c = chosen (buffer c 0) (buffer c 1)
+answer (Ok Clash) c = clash (buffer c 0) (buffer c 1)
+answer (Err e) c = refused e (buffers (called c))
 
--- the reply that says what a call returned
-abbrev pub done_reply : {A : Type 0} → Result A Refusal → Reply
-done_reply (Ok x) = Accepted
-done_reply (Err e) = Refused e
+-- what a call that answers so did
+abbrev pub step_done : Step → Done
+step_done Step.Handed = Handed
+step_done Step.NoMore = NoMore
 
-abbrev pub next_reply : Result Step Refusal → Reply
-next_reply (Ok Step.Handed) = Handed
-next_reply (Ok Step.NoMore) = NoMore
-next_reply (Err e) = Refused e
-
-abbrev pub ask_reply : Result Wish Refusal → Reply
-ask_reply (Ok Wish.Chosen) = Chosen
-ask_reply (Ok Wish.Clash) = Clash
-ask_reply (Err e) = Refused e
+abbrev pub wish_done : Wish → Done
+wish_done Wish.Chosen = Chosen
+wish_done Wish.Clash = Clash
 
 -- a turn as it was before it was played, and as it is after
 abbrev pub event : Turn → Turn → Event
@@ -65,7 +59,7 @@ event before after = record { call = called before.call; answer = answer after.r
 
 -- what stands past the end of a list of turns
 abbrev pub no_turn : Turn
-no_turn = record { call = Rewind; reply = Accepted }
+no_turn = record { call = Rewind; reply = Ok Accepted }
 
 -- the events of the first k turns, the newest first
 abbrev pub history : ℕ → (before after : List Turn) → List Event

@@ -1,6 +1,10 @@
 // A call of a session as a value, with what came back.
+ghost use Rattle.std.specs.Prelude.{◌≡◌};
+ghost use Rattle.runs.specs.Histories.{step_done, wish_done};
+
 use assignments::Literal;
 use refusals::Refusal;
+use session::table::{Step, Wish};
 
 // A call with its arguments. A buffer is written in place.
 #[derive(Drop)]
@@ -16,9 +20,9 @@ pub enum Call {
     Ask(Vec<Literal>, Vec<u8>, Vec<u8>),
 }
 
-// What came back.
+// What a call that is not refused did.
 #[derive(Clone, Copy, PartialEq, Eq, Debug)]
-pub enum Reply {
+pub enum Done {
     Accepted,
     // next: the assignment stands in the buffer
     Handed,
@@ -27,8 +31,32 @@ pub enum Reply {
     Chosen,
     // ask: none, and the ticks mark a minimal core
     Clash,
-    Refused(Refusal),
 }
+
+impl From<Step> for Done {
+    ghost from_gives = { λ step done. done ≡ step_done step };
+
+    fn from(step: Step) -> Done {
+        match step {
+            Step::Handed => Done::Handed,
+            Step::NoMore => Done::NoMore,
+        }
+    }
+}
+
+impl From<Wish> for Done {
+    ghost from_gives = { λ wish done. done ≡ wish_done wish };
+
+    fn from(wish: Wish) -> Done {
+        match wish {
+            Wish::Chosen => Done::Chosen,
+            Wish::Clash => Done::Clash,
+        }
+    }
+}
+
+// What came back.
+pub type Reply = Result<Done, Refusal>;
 
 // A call, and the reply once it has been played. What stands there before is not read.
 #[derive(Drop)]

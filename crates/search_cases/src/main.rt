@@ -6,24 +6,12 @@ use assignments::{ATOM_LIMIT, Literal};
 use clauses::book::ClauseBook;
 use cycles::arc::Arc;
 use cycles::cycle::Cycle;
+use digits::Digits;
 use refusals::Refusal;
 use search::find::{Finding, find_least};
-use std::{fmt, io};
+use std::io;
 use vetoes::mute::Mute;
 use vetoes::veto::Veto;
-
-// Bytes as digits: an assignment with unknown atoms as 2, or ticks.
-#[derive(Drop)]
-struct Digits<'a>(&'a [u8]);
-
-impl fmt::Display for Digits<'_> {
-    fn fmt<W: fmt::Write>(&self, f: &mut fmt::Formatter<W>) -> fmt::Result {
-        for byte in self.0 {
-            write!(f, "{byte}")?;
-        }
-        Ok(())
-    }
-}
 
 // Eight atoms at most; the ticks hold 7 before the call, so that what stays can be seen.
 fn show<V: Veto>(
@@ -43,13 +31,6 @@ fn show<V: Veto>(
     println!(rt; ", {}, ticks {}", Digits(assignment), Digits(&ticks))
 }
 
-fn add_all(book: &mut ClauseBook, clauses: &[[Literal; 2]]) -> Result<(), Refusal> {
-    for clause in clauses {
-        book.add(clause)?;
-    }
-    Ok(())
-}
-
 // Three pigeons in two holes: pigeon 1 has atoms 1 and 2, pigeon 2 has 3 and 4, pigeon 3 has 5 and 6; 7 and 8 are free.
 const PIGEONS: [[Literal; 2]; 9] = [
     [1, 2],
@@ -63,92 +44,72 @@ const PIGEONS: [[Literal; 2]; 9] = [
     [-4, -6],
 ];
 
-fn pigeons(rt: &HostRuntime, book: &mut ClauseBook) -> io::Result<()> {
-    if add_all(book, &PIGEONS).is_err() {
-        println!(rt; "a clause was refused")?;
+fn pigeons(rt: &HostRuntime) -> anyhow::Result<()> {
+    let mut book = ClauseBook::fresh(8)?;
+    for clause in PIGEONS {
+        book.add(&clause)?;
     }
     println!(rt; "three pigeons in two holes")?;
-    show(rt, book, &mut Mute, &mut [2; 8], 0)?;
-    show(rt, book, &mut Mute, &mut [1, 2, 2, 2, 2, 2, 0, 1], 0)
+    show(rt, &book, &mut Mute, &mut [2; 8], 0)?;
+    show(rt, &book, &mut Mute, &mut [1, 2, 2, 2, 2, 2, 0, 1], 0)?;
+    Ok(())
 }
 
-fn choices(rt: &HostRuntime, book: &mut ClauseBook) -> io::Result<()> {
+fn choices(rt: &HostRuntime) -> anyhow::Result<()> {
+    let mut book = ClauseBook::fresh(9)?;
     println!(rt; "no clause")?;
-    show(rt, book, &mut Mute, &mut [], 0)?;
-    show(rt, book, &mut Mute, &mut [2, 1, 9], 0)?;
-    if book.add(&[1, 2]).is_err() || book.add(&[-2, 3]).is_err() {
-        println!(rt; "a clause was refused")?;
-    }
+    show(rt, &book, &mut Mute, &mut [], 0)?;
+    show(rt, &book, &mut Mute, &mut [2, 1, 9], 0)?;
+    book.add(&[1, 2])?;
+    book.add(&[-2, 3])?;
     println!(rt; "1 or 2, not 2 or 3")?;
-    show(rt, book, &mut Mute, &mut [2, 2, 2], 0)?;
-    show(rt, book, &mut Mute, &mut [2, 2, 2], 1)?;
-    show(rt, book, &mut Mute, &mut [2, 2, 0], 1)?;
-    show(rt, book, &mut Mute, &mut [0, 2, 0, 1], 0)?;
-    show(rt, book, &mut Mute, &mut [2, 2, 2, 2, 2, 2, 2, 2, 2], 0)
+    show(rt, &book, &mut Mute, &mut [2, 2, 2], 0)?;
+    show(rt, &book, &mut Mute, &mut [2, 2, 2], 1)?;
+    show(rt, &book, &mut Mute, &mut [2, 2, 0], 1)?;
+    show(rt, &book, &mut Mute, &mut [0, 2, 0, 1], 0)?;
+    show(rt, &book, &mut Mute, &mut [2, 2, 2, 2, 2, 2, 2, 2, 2], 0)?;
+    Ok(())
 }
 
-fn loops(rt: &HostRuntime, book: &mut ClauseBook) -> io::Result<()> {
-    let arcs = [
-        Arc {
-            atom: 1,
-            from: 1,
-            to: 2,
-        },
-        Arc {
-            atom: 2,
-            from: 2,
-            to: 1,
-        },
-        Arc {
-            atom: 3,
-            from: 2,
-            to: 3,
-        },
-    ];
+fn loops(rt: &HostRuntime) -> anyhow::Result<()> {
+    let arcs = [(1, 1, 2), (2, 2, 1), (3, 2, 3)].map(|(atom, from, to)| Arc { atom, from, to });
     let mut veto = Cycle::new(&arcs[..]);
     println!(rt; "arcs 1: 1 to 2, 2: 2 to 1, 3: 2 to 3")?;
-    if book.add(&[1]).is_err() || book.add(&[2, 3]).is_err() {
-        println!(rt; "a clause was refused")?;
-    }
-    show(rt, book, &mut veto, &mut [2, 2, 2], 0)?;
-    show(rt, book, &mut veto, &mut [2, 2, 0], 0)
+    let mut book = ClauseBook::fresh(3)?;
+    book.add(&[1])?;
+    book.add(&[2, 3])?;
+    show(rt, &book, &mut veto, &mut [2, 2, 2], 0)?;
+    show(rt, &book, &mut veto, &mut [2, 2, 0], 0)?;
+    Ok(())
 }
 
 // Two hundred atoms: each is joined to the next by "this one or not the next", and the last has to be true.
-fn chain(book: &mut ClauseBook) -> Result<(), Refusal> {
+fn chain() -> Result<ClauseBook, Refusal> {
+    let mut book = ClauseBook::fresh(ATOM_LIMIT)?;
     for atom in 1..200 {
         book.add(&[atom, -1 - atom])?;
     }
-    book.add(&[200])
+    book.add(&[200])?;
+    Ok(book)
 }
 
-fn whole_chain(rt: &HostRuntime, book: &mut ClauseBook) -> io::Result<()> {
-    if chain(book).is_err() {
-        println!(rt; "a clause was refused")?;
-    }
+fn whole_chain(rt: &HostRuntime) -> anyhow::Result<()> {
+    let book = chain()?;
     let mut assignment = [2; ATOM_LIMIT];
     let mut ticks = [0; ATOM_LIMIT];
-    match find_least(book, &mut Mute, &mut assignment, 0, &mut ticks) {
-        Ok(Finding::Found) => {
+    match find_least(&book, &mut Mute, &mut assignment, 0, &mut ticks)? {
+        Finding::Found => {
             let ones = is_part(&[1; ATOM_LIMIT], &assignment);
-            println!(rt; "chain of 200: found, all true: {ones}")
+            println!(rt; "chain of 200: found, all true: {ones}")?;
         }
-        _ => println!(rt; "chain of 200: not found"),
-    }
-}
-
-fn main(rt: HostRuntime) -> io::Result<()> {
-    if let Ok(mut book) = ClauseBook::fresh(9) {
-        choices(&rt, &mut book)?;
-    }
-    if let Ok(mut book) = ClauseBook::fresh(8) {
-        pigeons(&rt, &mut book)?;
-    }
-    if let Ok(mut book) = ClauseBook::fresh(3) {
-        loops(&rt, &mut book)?;
-    }
-    if let Ok(mut book) = ClauseBook::fresh(ATOM_LIMIT) {
-        whole_chain(&rt, &mut book)?;
+        Finding::Nothing => println!(rt; "chain of 200: not found")?,
     }
     Ok(())
+}
+
+fn main(rt: HostRuntime) -> anyhow::Result<()> {
+    choices(&rt)?;
+    pigeons(&rt)?;
+    loops(&rt)?;
+    whole_chain(&rt)
 }

@@ -1,10 +1,10 @@
 -- Ticked assumptions that clash, with one after the other left out. Assumes nothing.
-use Rattle.std.proofs.Common.{◌≡◌, ℕ, ◌+◌, ◌<◌, ◌≤◌, Bool, true, false, eqb, List, length, get_or, set, ℤ, Some, None, Option, sym, refl, ap, ◌∙◌, subst, ⊎_elim, arith, length-set, get_or-set_other, get_or-set_same}
+use Rattle.std.proofs.Common.{◌≡◌, ℕ, ◌+◌, ◌<◌, ◌≤◌, Bool, eqb, List, length, get_or, set, ℤ, Some, None, Option, sym, ap, ◌∙◌, subst, ⊎_elim, arith, length-set, get_or-set_other, get_or-set_same}
 use Rattle.std.proofs.lemmas.Bool.{cases_eq, eq-eqb, eqb-true}
 use Rattle.assignments.specs.Assignments.{Complete}
 use Rattle.search.specs.Completions.{Allowed}
 use Rattle.ledgers.specs.Admitted.{IncludesTicked}
-use Rattle.seeking.specs.Including.{Including, AllTicked, Core}
+use Rattle.seeking.specs.Including.{Including, Core}
 
 abbrev IsSome : Option ℕ → Type 0
 IsSome None = ⊥
@@ -13,31 +13,20 @@ IsSome (Some i) = Unit {0}
 none_some : (i : ℕ) → None ≡ Some i → ⊥
 none_some i e = subst IsSome (sym e) tt
 
-module _ (P : List ℕ → Type 0) (n : ℕ) (a : List ℤ) (t₀ : List ℕ) where
+module _ (P : List ℕ → Type 0) (n : ℕ) (a : List ℤ) (before : List ℕ) where
   -- those before i are left out or needed, those from i on are all there
   pub record Shrunk (t : List ℕ) (i : ℕ) : Type 0 where
     pub bits : (j : ℕ) → j < length a → get_or t j 0 < 2
     pub later : (j : ℕ) → i ≤ j → j < length a → get_or t j 0 ≡ 1
-    pub stays : (j : ℕ) → length a ≤ j → get_or t j 0 ≡ get_or t₀ j 0
-    pub clash : ((r : List ℕ) → Including P n a true t₀ r → ⊥) → (r : List ℕ) → Including P n a false t r → ⊥
+    pub stays : (j : ℕ) → length a ≤ j → get_or t j 0 ≡ get_or before j 0
+    pub clash : ((r : List ℕ) → Including P n a None r → ⊥) → (r : List ℕ) → Including P n a (Some t) r → ⊥
     pub needed : (j : ℕ) → j < i → get_or t j 0 ≡ 1 → (q : List ℕ) × Complete n q × P q × IncludesTicked q a t (Some j)
 
-  pub shrunk_start : ((j : ℕ) → j < length a → get_or t₀ j 0 ≡ 1) → Shrunk t₀ 0
-  shrunk_start k = record {
-    bits = λ j h. let e = k j h in omega arith;
-    later = λ j _ h. k j h;
-    stays = λ j h. refl;
-    clash = λ none r c. none r (record { complete = c.complete; has = c.has; includes = record { each = λ j h _. c.includes.each j h (eq-eqb _ _ (k j h)) } });
-    needed = λ j h. absurd (omega arith);
-  }
-
-  pub core : (before t : List ℕ) (i : ℕ) → AllTicked (length a) before t₀ → length a ≤ i → Shrunk t i → Core P n a before t
-  core before t i k end s = record {
+  pub core : (t : List ℕ) (i : ℕ) → length a ≤ i → Shrunk t i → Core P n a before t
+  core t i end s = record {
     bits = s.bits;
-    stays = λ j h. s.stays j h ∙ k.stays j h;
-    clash = λ none q f has c. s.clash
-        (λ r x. none r (record { complete = x.complete; has = x.has; includes = record { each = x.includes.each } }))
-        q (record { complete = f; has = has; includes = record { each = λ j h k. c.each j h (eqb-true _ _ k) (none_some j) } });
+    stays = s.stays;
+    clash = λ none q f has c. s.clash none q (record { complete = f; has = has; includes = record { each = λ j h k. c.each j h (eqb-true _ _ k) (none_some j) } });
     needed = λ j h e. s.needed j (omega arith) e;
   }
 
@@ -46,7 +35,7 @@ module _ (P : List ℕ → Type 0) (n : ℕ) (a : List ℤ) (t₀ : List ℕ) wh
     fewer j ne = get_or-set_other t i j 0 0 ne
 
     -- without i the others still clash
-    pub shrunk_left : ((r : List ℕ) → Including P n a false (set t i 0) r → ⊥) → Shrunk (set t i 0) (i + 1)
+    pub shrunk_left : ((r : List ℕ) → Including P n a (Some (set t i 0)) r → ⊥) → Shrunk (set t i 0) (i + 1)
     shrunk_left none = record {
       bits = λ j h. ⊎_elim (λ (e : j ≡ i). let z : get_or (set t i 0) j 0 ≡ 0 = rw e (get_or-set_same t i 0 0 inside) in omega arith) (λ (e : j ≡ i → ⊥). let x = fewer j e in let b = s.bits j h in omega arith) (cases_eq j i);
       later = λ j w h. fewer j (λ e. omega arith) ∙ s.later j (omega arith) h;
@@ -62,7 +51,7 @@ module _ (P : List ℕ → Type 0) (n : ℕ) (a : List ℤ) (t₀ : List ℕ) wh
         off j u e = let z : get_or (set t i 0) j 0 ≡ 0 = rw e (get_or-set_same t i 0 0 inside) in omega arith
 
     -- without i something includes the others
-    pub shrunk_kept : (q : List ℕ) → Including P n a false (set t i 0) q → Shrunk (set (set t i 0) i 1) (i + 1)
+    pub shrunk_kept : (q : List ℕ) → Including P n a (Some (set t i 0)) q → Shrunk (set (set t i 0) i 1) (i + 1)
     shrunk_kept q c = record {
       bits = λ j h. let e = same j in let b = s.bits j h in omega arith;
       later = λ j w h. same j ∙ s.later j (omega arith) h;
@@ -82,8 +71,8 @@ module _ (P : List ℕ → Type 0) (n : ℕ) (a : List ℤ) (t₀ : List ℕ) wh
             (cases_eq j i)
 
 -- the same at an equal meaning and length
-pub including_at : {cs : List (List ℤ)} {s s' : List ℕ → Bool} {n n' : ℕ} {a : List ℤ} {all : Bool} {t q : List ℕ} → s ≡ s' → n ≡ n' → Including (Allowed cs s) n a all t q → Including (Allowed cs s') n' a all t q
-including_at {cs} {s} {s'} {n} {n'} {a} {all} {t} {q} x y h = subst (λ v. Including (Allowed cs v) n' a all t q) x (subst (λ m. Including (Allowed cs s) m a all t q) y h)
+pub including_at : {cs : List (List ℤ)} {s s' : List ℕ → Bool} {n n' : ℕ} {a : List ℤ} {only : Option (List ℕ)} {q : List ℕ} → s ≡ s' → n ≡ n' → Including (Allowed cs s) n a only q → Including (Allowed cs s') n' a only q
+including_at {cs} {s} {s'} {n} {n'} {a} {only} {q} x y h = subst (λ v. Including (Allowed cs v) n' a only q) x (subst (λ m. Including (Allowed cs s) m a only q) y h)
 
-pub none_including_at : {cs : List (List ℤ)} {s s' : List ℕ → Bool} {n n' : ℕ} {a : List ℤ} {all : Bool} {t : List ℕ} → s ≡ s' → n ≡ n' → ((r : List ℕ) → Including (Allowed cs s) n a all t r → ⊥) → (r : List ℕ) → Including (Allowed cs s') n' a all t r → ⊥
+pub none_including_at : {cs : List (List ℤ)} {s s' : List ℕ → Bool} {n n' : ℕ} {a : List ℤ} {only : Option (List ℕ)} → s ≡ s' → n ≡ n' → ((r : List ℕ) → Including (Allowed cs s) n a only r → ⊥) → (r : List ℕ) → Including (Allowed cs s') n' a only r → ⊥
 none_including_at x y none r c = none r (including_at (sym x) (sym y) c)

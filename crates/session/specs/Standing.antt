@@ -1,5 +1,6 @@
 -- When a session's table stands for a ledger, and what a call owes then. Assumes nothing.
-use Rattle.std.specs.Prelude.{◌≡◌, ℕ, zero, suc, true, cond, List, [], ◌∷◌, take, ℤ, Some, None, Ok, Err, Option, Result, slice_index_or}
+use Rattle.std.specs.Prelude.{◌≡◌, ℕ, zero, suc, true, List, [], ◌∷◌, take, ℤ, Some, None, Ok, Err, Option, Result, slice_index_or}
+use Rattle.std.specs.Borrow.{Bor}
 use Rattle.refusals.specs.declared.Refusal.{Refusal}
 use Rattle.assignments.specs.Assignments.{Complete}
 use Rattle.clauses.specs.declared.stretch.Counts.{Counts}
@@ -17,9 +18,6 @@ use Rattle.session.specs.declared.table.Wish.{Wish}
 use Rattle.session.specs.declared.table.Wish.TheVariants.{Chosen, Clash}
 use Rattle.session.specs.declared.table.SessionTable.{SessionTable}
 
-abbrev pub size_of : SessionTable → Option ℕ
-size_of t = cond t.sized (Some (atoms_of t.book)) None
-
 abbrev pub no_counts : Counts
 no_counts = record { clauses = 0; literals = 0 }
 
@@ -33,13 +31,20 @@ abbrev pub Nested : List (List ℤ) → List Counts → ℕ → Type 0
 Nested held s zero = Unit {0}
 Nested held s (suc k) = (is_front held (slice_index_or s k no_counts).clauses (slice_index_or s k no_counts).literals ≡ true) × Nested (take (slice_index_or s k no_counts).clauses held) s k
 
-abbrev pub place_of : Place → List ℕ → Position
-place_of BeforeFirst p = before_first
-place_of Reached p = reached p
-place_of PastEnd p = past_end
+-- the first n bytes of what was reached
+abbrev pub place_of : ℕ → Place (List ℕ) → Position
+place_of n BeforeFirst = before_first
+place_of n (Reached p) = reached (take n p)
+place_of n PastEnd = past_end
+
+-- what was reached stands in a slice
+abbrev pub lent : Place (Bor (List ℕ)) → Position
+lent BeforeFirst = before_first
+lent (Reached p) = reached p.now
+lent PastEnd = past_end
 
 abbrev pub position_of : SessionTable → Position
-position_of t = place_of t.place (take (atoms_of t.book) t.position)
+position_of t = place_of (atoms_of t.book) t.place
 
 -- what is stored of a position is complete
 abbrev pub Stored : ℕ → Position → Type 0
@@ -53,17 +58,28 @@ pub record Ahead (P : List ℕ → Type 0) (n : ℕ) (pos : Position) (q : List 
   pub has : P q
   pub beyond : Beyond pos q
 
-pub record Stands (t : SessionTable) (l : Ledger) : Type 0 where
-  pub size : l.size ≡ size_of t
+-- the ledger of an unsized session
+pub record Unsized (l : Ledger) : Type 0 where
+  pub size : l.size ≡ None
+  pub held : l.held ≡ []
+  pub scopes : l.scopes ≡ []
+  pub position : l.position ≡ before_first
+
+pub record Sized (t : SessionTable) (l : Ledger) : Type 0 where
+  pub size : l.size ≡ Some (atoms_of t.book)
   pub held : l.held ≡ clauses_of t.book
   pub scopes : l.scopes ≡ openings t.scopes t.opened
   pub nested : Nested (clauses_of t.book) t.scopes t.opened
   pub position : l.position ≡ position_of t
   pub stored : Stored (atoms_of t.book) (position_of t)
 
+abbrev pub Stands : Option SessionTable → Ledger → Type 0
+Stands None l = Unsized l
+Stands (Some t) l = Sized t l
+
 -- whatever ledger the session stands for: the answer is right, and afterwards it stands for the advanced ledger
-pub record Keeps (m : Meaning) (t t' : SessionTable) (c : Call) (a : Answer) : Type 0 where
-  pub step : (l : Ledger) → Stands t l → Right m l c a × Stands t' (advance l c a)
+pub record Keeps (m : Meaning) (o o' : Option SessionTable) (c : Call) (a : Answer) : Type 0 where
+  pub step : (l : Ledger) → Stands o l → Right m l c a × Stands o' (advance l c a)
 
 -- the answer of a call that hands nothing out
 abbrev pub done : {A : Type 0} → Result A Refusal → List (List ℕ) → Answer

@@ -1,6 +1,5 @@
 // What a session keeps beside its veto.
-ghost use Rattle.std.specs.Prelude.{◌≡◌, ◌≤◌, length};
-ghost use Rattle.assignments.specs.Limits.{atom_limit};
+ghost use Rattle.std.specs.Prelude.{◌≤◌};
 ghost use Rattle.ledgers.specs.Right.{scope_limit};
 
 use assignments::ATOM_LIMIT;
@@ -10,11 +9,11 @@ use clauses::stretch::Counts;
 // So many scopes can be open.
 pub const SCOPE_LIMIT: usize = 16;
 
-// Where `next` stands.
+// Where `next` stands: before the first, at what it handed out last, or past the end.
 #[derive(Clone, Copy)]
-pub enum Place {
+pub enum Place<P> {
     BeforeFirst,
-    Reached,
+    Reached(P),
     PastEnd,
 }
 
@@ -32,17 +31,14 @@ pub enum Wish {
     Clash,
 }
 
+// What a sized session holds.
 #[derive(Drop)]
 pub struct SessionTable {
-    pub(crate) sized: bool,
     // its number of atoms is the session's size
     pub(crate) book: ClauseBook,
     // for each open scope, what the book held at its opening
     pub(crate) scopes: [Counts; SCOPE_LIMIT],
     pub(crate) opened: usize,
-    pub(crate) place: Place,
-    pub(crate) position: [u8; ATOM_LIMIT],
+    pub(crate) place: Place<[u8; ATOM_LIMIT]>,
     ghost few: { opened ≤ scope_limit },
-    ghost room: { length scopes ≡ scope_limit },
-    ghost wide: { length position ≡ atom_limit },
 }

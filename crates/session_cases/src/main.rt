@@ -4,24 +4,13 @@
 use assignments::Literal;
 use cycles::arc::Arc;
 use cycles::cycle::Cycle;
+use digits::Digits;
 use refusals::Refusal;
 use session::session::Session;
 use session::table::{Step, Wish};
-use std::{fmt, io};
+use std::io;
 use vetoes::mute::Mute;
 use vetoes::veto::Veto;
-
-#[derive(Drop)]
-struct Digits<'a>(&'a [u8]);
-
-impl fmt::Display for Digits<'_> {
-    fn fmt<W: fmt::Write>(&self, f: &mut fmt::Formatter<W>) -> fmt::Result {
-        for byte in self.0 {
-            write!(f, "{byte}")?;
-        }
-        Ok(())
-    }
-}
 
 fn tell(rt: &HostRuntime, what: &str, answer: Result<(), Refusal>) -> io::Result<()> {
     match answer {
@@ -87,31 +76,19 @@ fn listing(rt: &HostRuntime) -> io::Result<()> {
     next(rt, &mut session)?;
     tell(rt, "open", session.open())?;
     tell(rt, "clause -2", session.clause(&[-2]))?;
-    next(rt, &mut session)?;
-    next(rt, &mut session)?;
-    next(rt, &mut session)?;
+    for _ in 0..3 {
+        next(rt, &mut session)?;
+    }
     tell(rt, "close", session.close())?;
-    next(rt, &mut session)?;
-    next(rt, &mut session)?;
-    next(rt, &mut session)?;
-    next(rt, &mut session)?;
+    for _ in 0..4 {
+        next(rt, &mut session)?;
+    }
     tell(rt, "rewind", session.rewind())?;
     next(rt, &mut session)
 }
 
 fn asking(rt: &HostRuntime) -> io::Result<()> {
-    let arcs = [
-        Arc {
-            atom: 1,
-            from: 1,
-            to: 2,
-        },
-        Arc {
-            atom: 2,
-            from: 2,
-            to: 1,
-        },
-    ];
+    let arcs = [(1, 1, 2), (2, 2, 1)].map(|(atom, from, to)| Arc { atom, from, to });
     let mut session = Session::new(Cycle::new(&arcs[..]));
     tell(rt, "arcs both ways by 1 and 2, size 1", session.size(1))?;
     tell(rt, "size 3", session.size(3))?;
@@ -122,9 +99,9 @@ fn asking(rt: &HostRuntime) -> io::Result<()> {
     ask(rt, &mut session, &[2, -1])?;
     tell(rt, "clause 1", session.clause(&[1]))?;
     ask(rt, &mut session, &[3, 2])?;
-    next(rt, &mut session)?;
-    next(rt, &mut session)?;
-    next(rt, &mut session)?;
+    for _ in 0..3 {
+        next(rt, &mut session)?;
+    }
     tell(rt, "clause", session.clause(&[]))?;
     ask(rt, &mut session, &[3, 2])
 }

@@ -37,11 +37,10 @@ impl<T: Copy, const N: usize> Table<T, N> {
         if more.len() > N - self.len {
             return false;
         }
-        for item in more {
-            let at = self.len;
-            self.items[at] = *item;
-            self.len = at + 1;
-        }
+        let (at, end) = (self.len, self.len + more.len());
+        let all = &mut self.items[..];
+        all[at..end].copy_from_slice(more);
+        self.len = end;
         true
     }
 
@@ -57,7 +56,6 @@ impl<T: Copy, const N: usize> Table<T, N> {
     pub fn as_slice(&self) -> &[T]
         ensures { result.now ≡ entries self.now }
     {
-        let all = &self.items[..];
-        &all[0..self.len]
+        &self.items[..self.len]
     }
 }

@@ -1,28 +1,18 @@
 // Worked cases of the vetoes: what each says at an assignment, and which atoms it ticks.
 #![tactic(auto)]
 
-use assignments::values::{Value, read_value};
-use cycles::arc::Arc;
+use assignments::AtomNumber;
+use cycles::arc::{Arc, SignalNumber};
 use cycles::cycle::Cycle;
+use digits::Digits;
+use loads::kind::{Lines, Milliamperes};
 use loads::load::Load;
 use loads::row::Row;
-use std::{fmt, io};
+use refusals::Refusal;
+use std::io;
 use vetoes::mute::Mute;
 use vetoes::pair::Pair;
 use vetoes::veto::{Verdict, Veto};
-
-// Bytes as digits: an assignment with unknown atoms as 2, or ticks.
-#[derive(Drop)]
-struct Digits<'a>(&'a [u8]);
-
-impl fmt::Display for Digits<'_> {
-    fn fmt<W: fmt::Write>(&self, f: &mut fmt::Formatter<W>) -> fmt::Result {
-        for byte in self.0 {
-            write!(f, "{byte}")?;
-        }
-        Ok(())
-    }
-}
 
 // The ticks hold 7 before the call, so that what stays can be seen.
 fn show<V: Veto>(rt: &HostRuntime, name: &str, veto: &mut V, assignment: &[u8]) -> io::Result<()> {
@@ -30,14 +20,19 @@ fn show<V: Veto>(rt: &HostRuntime, name: &str, veto: &mut V, assignment: &[u8]) 
     let verdict = veto.examine(assignment, &mut ticks);
     print!(rt; "{name} at {}: ", Digits(assignment))?;
     match verdict {
-        Ok(Verdict::Speaks) => println!(rt; "speaks, ticks {}", Digits(&ticks)),
-        Ok(Verdict::Silent) => println!(rt; "silent, ticks {}", Digits(&ticks)),
-        Err(refusal) => println!(rt; "refused {}, ticks {}", refusal.number(), Digits(&ticks)),
+        Ok(Verdict::Speaks) => print!(rt; "speaks")?,
+        Ok(Verdict::Silent) => print!(rt; "silent")?,
+        Err(refusal) => print!(rt; "refused {}", refusal.number())?,
     }
+    println!(rt; ", ticks {}", Digits(&ticks))
 }
 
-fn arc(atom: u8, from: u8, to: u8) -> Arc {
+fn arc(atom: AtomNumber, from: SignalNumber, to: SignalNumber) -> Arc {
     Arc { atom, from, to }
+}
+
+fn row<L>(atom: AtomNumber, load: L) -> Row<L> {
+    Row { atom, load }
 }
 
 fn cycles(rt: &HostRuntime) -> io::Result<()> {
@@ -74,15 +69,7 @@ fn cycles(rt: &HostRuntime) -> io::Result<()> {
 }
 
 fn amperes(rt: &HostRuntime) -> io::Result<()> {
-    let rows = [
-        Row {
-            atom: 9,
-            load: 500u32,
-        },
-        Row { atom: 1, load: 300 },
-        Row { atom: 2, load: 200 },
-        Row { atom: 3, load: 1 },
-    ];
+    let rows: [Row<Milliamperes>; 4] = [row(9, 500), row(1, 300), row(2, 200), row(3, 1)];
     let mut veto = Load::new(&rows[..]);
     println!(rt; "limit 500 mA, loads 300, 200, 1; reach {}", veto.reach())?;
     show(rt, "load", &mut veto, &[1, 1, 0])?;
@@ -90,19 +77,10 @@ fn amperes(rt: &HostRuntime) -> io::Result<()> {
     show(rt, "load", &mut veto, &[1, 1, 2])?;
     show(rt, "load", &mut veto, &[1, 1])?;
     let most = [
-        Row {
-            atom: 0,
-            load: 4294967294u32,
-        },
-        Row {
-            atom: 1,
-            load: 4294967295,
-        },
-        Row {
-            atom: 2,
-            load: 4294967295,
-        },
-        Row { atom: 201, load: 1 },
+        row(0, Milliamperes::MAX - 1),
+        row(1, Milliamperes::MAX),
+        row(2, Milliamperes::MAX),
+        row(201, 1),
     ];
     let mut veto = Load::new(&most[..]);
     println!(rt;
@@ -111,28 +89,14 @@ fn amperes(rt: &HostRuntime) -> io::Result<()> {
     )?;
     show(rt, "load", &mut veto, &[0, 0])?;
     show(rt, "load", &mut veto, &[1, 1])?;
-    let none: [Row<u32>; 0] = [];
+    let none: [Row<Milliamperes>; 0] = [];
     let mut veto = Load::new(&none[..]);
     println!(rt; "no row; reach {}", veto.reach())?;
     show(rt, "load", &mut veto, &[1, 1])
 }
 
 fn lines(rt: &HostRuntime) -> io::Result<()> {
-    let rows = [
-        Row {
-            atom: 0,
-            load: 1u16,
-        },
-        Row {
-            atom: 1,
-            load: 32768,
-        },
-        Row { atom: 2, load: 2 },
-        Row {
-            atom: 3,
-            load: 32768,
-        },
-    ];
+    let rows: [Row<Lines>; 4] = [row(0, 1), row(1, 1 << 15), row(2, 1 << 1), row(3, 1 << 15)];
     let mut veto = Load::new(&rows[..]);
     println!(rt;
         "limit one line, loads line 16, line 2, line 16; reach {}",
@@ -145,13 +109,7 @@ fn lines(rt: &HostRuntime) -> io::Result<()> {
 
 fn pairs(rt: &HostRuntime) -> io::Result<()> {
     let arcs = [arc(1, 1, 1)];
-    let rows = [
-        Row {
-            atom: 0,
-            load: 10u32,
-        },
-        Row { atom: 2, load: 11 },
-    ];
+    let rows: [Row<Milliamperes>; 2] = [row(0, 10), row(2, 11)];
     let mut veto = Pair::new(Cycle::new(&arcs[..]), Pair::new(Load::new(&rows[..]), Mute));
     println!(rt;
         "pair of arc 1: 1 to 1 with the pair of limit 10 mA, load 11, and mute; reach {}",
@@ -170,39 +128,34 @@ fn pairs(rt: &HostRuntime) -> io::Result<()> {
 // Each of 64 signals leads to all that come after it, as far as 400 arcs go, and the last of the arcs closes a chain.
 fn dense(rt: &HostRuntime) -> io::Result<()> {
     let mut arcs = [arc(1, 1, 2); 400];
-    let mut from = 50u8;
-    let mut to = 51u8;
-    for i in 0..400usize {
-        if to > 64 {
-            from = if from > 1 { from - 1 } else { 1 };
-            to = if from < 64 { from + 1 } else { 64 };
-        }
-        arcs[i] = arc(1, from, to);
-        to = if to < 65 { to + 1 } else { 65 };
+    let pairs = (1..=50)
+        .rev()
+        .flat_map(|from| (from + 1..=64).map(move |to| (from, to)));
+    for (slot, (from, to)) in arcs.iter_mut().zip(pairs) {
+        *slot = arc(1, from, to);
     }
     let mut ticks = [7; 250];
-    let mut veto = Cycle::new(&arcs[..]);
-    let verdict = veto.examine(&[1; 250], &mut ticks);
+    let verdict = Cycle::new(&arcs[..]).examine(&[1; 250], &mut ticks);
     println!(rt;
         "400 arcs from lower to higher signals, at 250 bytes: {}",
-        told(verdict.is_ok(), ticks[0], ticks[249])
+        told(verdict, &ticks)
     )?;
     arcs[399] = arc(200, 64, 40);
     let mut veto = Cycle::new(&arcs[..]);
     let verdict = veto.examine(&[1; 250], &mut ticks);
     println!(rt;
         "with an arc 200: 64 to 40: {}; reach {}, atom 200 {}",
-        told(verdict.is_ok(), ticks[0], ticks[249]),
+        told(verdict, &ticks),
         veto.reach(),
         ticks[199]
     )
 }
 
-// What the ticks of atom 1 and of byte 250, which is no atom, tell.
-fn told(answered: bool, first: u8, last: u8) -> &'static str {
-    match (answered, read_value(first), read_value(last)) {
-        (true, Value::True, Value::False) => "speaks",
-        (true, Value::Unknown, Value::Unknown) => "silent",
+// The verdict, where the ticks of atom 1 and of byte 250, which is no atom, agree with it; both are 7 before the call.
+fn told(verdict: Result<Verdict, Refusal>, ticks: &[u8; 250]) -> &'static str {
+    match (verdict, ticks) {
+        (Ok(Verdict::Speaks), [1, .., 0]) => "speaks",
+        (Ok(Verdict::Silent), [7, .., 7]) => "silent",
         _ => "neither",
     }
 }

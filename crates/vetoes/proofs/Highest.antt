@@ -1,20 +1,13 @@
 -- The highest atom that counts. Assumes nothing.
-use Rattle.std.proofs.Common.{◌≡◌, ℕ, zero, suc, ◌+◌, ◌<◌, ◌≤◌, max, List, [], ◌∷◌, length, get_or, drop, sym, refl, ap, ◌∙◌, le_of_suc-le-suc, not-suc-le-zero, arith}
-use Rattle.std.proofs.lemmas.List.{at_drop_more, at_drop_all}
+use Rattle.std.proofs.Common.{◌≡◌, ℕ, zero, suc, ◌<◌, ◌≤◌, max, List, [], ◌∷◌, length, get_or, fold, refl, le_of_suc-le-suc, not-suc-le-zero, arith}
 use Rattle.assignments.specs.Assignments.{at, atom}
 use Rattle.vetoes.specs.Counted.{highest_of}
 
 module _ {X : Type 0} (f : X → ℕ) where
-  -- a turn of the loop, and its end
-  pub highest_more : (xs : List X) (i : ℕ) (x : X) (t u : ℕ) → i < length xs → x ≡ get_or xs i x → max t (highest_of f (drop i xs)) ≡ highest_of f xs → u ≡ max t (f x) → max u (highest_of f (drop (i + 1) xs)) ≡ highest_of f xs
-  highest_more xs i x t u h read inv e =
-      let s : highest_of f (drop i xs) ≡ max (f x) (highest_of f (drop (i + 1) xs)) = at_drop_more (highest_of f) xs i x h ∙ ap (λ y. max (f y) (highest_of f (drop (i + 1) xs))) (sym read) in
-      omega arith
-
-  pub highest_all : (xs : List X) (i t : ℕ) → length xs ≤ i → max t (highest_of f (drop i xs)) ≡ highest_of f xs → t ≡ highest_of f xs
-  highest_all xs i t h inv =
-      let s : highest_of f (drop i xs) ≡ 0 = at_drop_all (highest_of f) xs i h in
-      omega arith
+  -- the fold of the program, from any start
+  pub highest_fold : (xs : List X) (t : ℕ) → fold (λ n x. max n (f x)) t xs ≡ max t (highest_of f xs)
+  highest_fold [] t = omega arith
+  highest_fold (x ∷ xs) t = let r = highest_fold xs (max t (f x)) in omega arith
 
   pub highest_over : (xs : List X) (i : ℕ) (d : X) → i < length xs → f (get_or xs i d) ≤ highest_of f xs
   highest_over [] i d h = absurd (not-suc-le-zero h)

@@ -1,7 +1,8 @@
 -- Marks for a reason, and how they become ticks. Assumes nothing.
-use Rattle.std.specs.Prelude.{◌≡◌, ℕ, ◌<◌, ◌≤◌, Bool, List, length, Ok, Err, Result, slice_index}
+use Rattle.std.specs.Prelude.{◌≡◌, ℕ, ◌-◌, ◌<◌, ◌≤◌, Bool, cond, nat_lt, slice_set, List, [], length, Option, Some, None, Ok, Err, Result, slice_index}
+use Rattle.std.specs.Borrow.{Bor}
 use Rattle.refusals.specs.declared.Refusal.{Refusal}
-use Rattle.assignments.specs.Assignments.{at}
+use Rattle.assignments.specs.Assignments.{at, atom}
 use Rattle.assignments.specs.Limits.{atom_limit}
 use Rattle.vetoes.specs.declared.veto.Verdict.{Verdict}
 use Rattle.vetoes.specs.declared.veto.Verdict.TheVariants.{Speaks, Silent}
@@ -13,6 +14,10 @@ pub record Marks (p t : List ℕ) : Type 0 where
   pub bits : (i : ℕ) → slice_index t i < 2
   pub known : (i : ℕ) → slice_index t i ≡ 1 → at p i < 2
 
+-- the marks t with atom a too, where p knows it
+abbrev pub marked : List ℕ → ℕ → List ℕ → List ℕ
+marked p a t = cond (nat_lt (atom p a) 2) (slice_set t (a - 1) 1) t
+
 -- the first n ticks are the marks, the others as before
 pub record Copied (marks : List ℕ) (n : ℕ) (before after : List ℕ) : Type 0 where
   pub front : (i : ℕ) → i < n → i < length before → slice_index after i ≡ slice_index marks i
@@ -22,6 +27,11 @@ abbrev pub CopiedIf : List ℕ → ℕ → (before after : List ℕ) → Result 
 CopiedIf marks n before after (Ok Speaks) = Copied marks n before after
 CopiedIf marks n before after (Ok Silent) = Unit {0}
 CopiedIf marks n before after (Err e) = Unit {0}
+
+-- the marks of a reason, where there is one
+abbrev pub marks_in : Option (Bor (List ℕ)) → List ℕ
+marks_in (Some marks) = marks.now
+marks_in None = []
 
 -- the answer of a veto that speaks or not, and whose reason is marked
 abbrev pub Answered : Bool → (marks p before after : List ℕ) → Result Verdict Refusal → Type 0

@@ -4,7 +4,7 @@ ghost use Rattle.assignments.specs.Limits.{atom_limit};
 ghost use Rattle.vetoes.specs.Counted.{highest_of, live};
 
 use assignments::AtomNumber;
-use assignments::values::{Value, value_at};
+use assignments::values::value_at;
 
 pub trait Counted {
     // the atom that it names, or 0 where it does not count
@@ -20,20 +20,14 @@ pub trait Counted {
 pub fn highest<T: Counted>(items: &[T]) -> usize
     ensures { result ≡ highest_of T.Counted.counted items.now }
 {
-    let mut top = 0;
-    for item in items {
-        top = top.max(item.counted_atom() as usize);
-    }
-    top
+    items
+        .iter()
+        .fold(0, |top, item| top.max(item.counted_atom() as usize))
 }
 
 // Whether it counts and its atom is true.
 pub fn is_live<T: Counted>(assignment: &[u8], item: &T) -> bool
     ensures { result ≡ live T.Counted.counted assignment.now item.now }
 {
-    match value_at(assignment, item.counted_atom()) {
-        Value::True => true,
-        Value::False => false,
-        Value::Unknown => false,
-    }
+    value_at(assignment, item.counted_atom()) == Some(true)
 }

@@ -9,4 +9,5 @@ pub mod lent;
 pub mod marks;
 pub mod mute;
 pub mod pair;
+pub mod reason;
 pub mod veto;

@@ -3,6 +3,7 @@ ghost use Rattle.std.specs.Prelude.{false};
 ghost use Rattle.vetoes.specs.Meaning.{silent};
 ghost use Rattle.std.proofs.Common.{rules};
 
+use crate::marks::answer;
 use crate::veto::{Verdict, Veto};
 use refusals::Refusal;
 
@@ -19,9 +20,6 @@ impl Veto for Mute {
     }
 
     fn examine(&mut self, assignment: &[u8], ticks: &mut [u8]) -> Result<Verdict, Refusal> {
-        if ticks.len() < assignment.len() {
-            return Err(Refusal::BufferShort);
-        }
-        Ok(Verdict::Silent)
+        answer(None, assignment, ticks)
     }
 }

@@ -1,23 +1,18 @@
-use Rattle.std.proofs.Common.{get_or, pos, w16, SFits, rules}
-use Rattle.std.proofs.lemmas.Int.{to_z-of_z}
-use Rattle.assignments.proofs.ClauseLaws.{met_found, met_passed, met_ended, stays_met}
+use Rattle.std.proofs.Common.{◌||◌, refl, ◌∙◌, rules, tests}
+use Rattle.std.specs.List.{list_any}
+use Rattle.std.proofs.lemmas.Iterator.{YieldsList-from_slice}
+use Rattle.std.proofs.lemmas.Iterator.Search.{any_from_yields_List}
+use Rattle.std.proofs.lemmas.List.Recursion.{same_from_clauses}
+use Rattle.assignments.specs.Literals.{true_at, met}
+use Rattle.assignments.proofs.ClauseLaws.{stays_met}
 use Rattle.assignments.proofs.literals.is_met.Goals as goal
 
-pub returns-then-is_true : goal.returns-then-is_true
-returns-then-is_true c =
-    let f : SFits w16 (get_or c.args.clause.now c.loop-literal.literal-index (pos 0)) = search rules in
-    record {
-      value = met_found c.args.assignment.now c.args.clause.now c.loop-literal.literal-index c.loop-literal.invariant c.loop-literal-test.true (simp to_z-of_z at c.if-is_true.ensures);
-      stays = stays_met;
-    }
+pub returns-clause-value : goal.returns-clause-value
+returns-clause-value c =
+    let p = c.args.assignment.now in
+    let ls = c.args.clause.now in
+    any_from_yields_List (true_at p) _ _ _ c.any.ensures.ran (YieldsList-from_slice ls cc) (λ x b q k. search (rules, tests))
+    ∙ same_from_clauses (list_any (true_at p)) (met p) (λ l b. true_at p l || b) refl (λ _ _. refl) (λ _ _. refl) ls
 
-pub loop-literal-preserved : goal.loop-literal-preserved
-loop-literal-preserved c =
-    let f : SFits w16 (get_or c.args.clause.now c.loop-literal.literal-index (pos 0)) = search rules in
-    met_passed c.args.assignment.now c.args.clause.now c.loop-literal.literal-index c.loop-literal.invariant c.loop-literal-test.true (simp to_z-of_z at c.if-is_true.ensures)
-
-pub returns : goal.returns
-returns c = record {
-  value = met_ended c.args.assignment.now c.args.clause.now c.loop-literal.literal-index c.loop-literal.invariant c.loop-literal-test.false;
-  stays = stays_met;
-}
+pub returns-clause-stays : goal.returns-clause-stays
+returns-clause-stays c = stays_met

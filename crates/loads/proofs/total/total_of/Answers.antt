@@ -1,5 +1,4 @@
-use Rattle.std.proofs.Common.{sym, ap, ◌∙◌, take_all}
-use Rattle.loads.specs.Rows.{total}
+use Rattle.std.proofs.Common.{sym, ◌∙◌}
 use Rattle.loads.specs.Sums.{counted, skipped}
 use Rattle.loads.proofs.total.total_of.Goals as goal
 use Rattle.loads.proofs.total.total_of.Goals.{then-is_live, else-is_live}
@@ -13,11 +12,6 @@ loop-row-preserved g c =
     let i = c.loop-row.row-index in
     let told = c.is_live.ensures in
     elim c.if-is_live.branch [
-      | then-is_live w ↦ counted m.empty m.join laws.assoc laws.comm p rs i _ _ _ c.loop-row-test.true c.row-item.is (sym told ∙ w.if-is_live.true) c.loop-row.invariant (w.all-is ∙ w.joined-all.ensures)
-      | else-is_live w ↦ skipped m.empty m.join laws.assoc laws.comm p rs i _ _ _ c.loop-row-test.true c.row-item.is (sym told ∙ w.if-is_live.false) c.loop-row.invariant w.all-is
+      | then-is_live w ↦ counted m.EMPTY m.join laws.assoc laws.comm p rs i _ _ _ c.loop-row-test.true c.row-item.is (sym told ∙ w.if-is_live.true) c.loop-row.invariant (w.all-is ∙ w.joined-all.ensures)
+      | else-is_live w ↦ skipped m.EMPTY m.join laws.assoc laws.comm p rs i _ _ _ c.loop-row-test.true c.row-item.is (sym told ∙ w.if-is_live.false) c.loop-row.invariant w.all-is
     ]
-
-pub returns : goal.returns
-returns g c =
-    let m = g.L.LoadKind in
-    c.loop-row.invariant ∙ ap (total m.empty m.join c.args.assignment.now) (take_all _ _ c.loop-row-test.false)

@@ -1,46 +1,36 @@
-use Rattle.std.proofs.Common.{◌≡◌, ◌-◌, ◌<◌, get_or, pos, nat_abs, sym, subst, inl, inr, ⊎_elim, arith, w16, SFits, rules}
-use Rattle.std.proofs.lemmas.Int.{to_z-of_z}
+use Rattle.std.proofs.Common.{◌≡◌, ◌+◌, ◌<◌, Some, None, length, get_or, pos, to_z, of_z, w16, sym, subst, arith, rules}
 use Rattle.assignments.specs.Assignments.{at}
+use Rattle.assignments.specs.Literals.{place_in}
 use Rattle.assignments.proofs.ByteLaws.{at_read}
-use Rattle.propagation.specs.Literals.{place}
-use Rattle.propagation.proofs.LiteralLaws.{real_atom, place_atom, out_of_range}
+use Rattle.propagation.specs.Ticking.{Adds, Named}
+use Rattle.propagation.proofs.LiteralLaws.{placed, none_known}
 use Rattle.propagation.proofs.TickSteps.{named_skip, named_tick}
 use Rattle.propagation.proofs.explaining.tick_known.Goals as goal
+use Rattle.propagation.proofs.explaining.tick_known.Goals.{then-assignment-place-lt2, else-assignment-place-lt2}
 
-pub loop-literal-preserved-then-atom-eq0 : goal.loop-literal-preserved-then-atom-eq0
-loop-literal-preserved-then-atom-eq0 c w =
+pub loop-literal-preserved-in_default : goal.loop-literal-preserved-in_default
+loop-literal-preserved-in_default c w =
     let ls = c.args.literals.now in
     let j = c.loop-literal.literal-index in
-    let z = get_or ls j (pos 0) in
     let p = c.args.assignment.now in
-    let f : SFits w16 z = search rules in
-    let a : c.unsigned_abs-atom.result ≡ nat_abs z = simp to_z-of_z at c.unsigned_abs-atom.ensures.value in
-    named_skip p ls j _ _ (out_of_range p z _ a (⊎_elim inl (λ x. inr x.1) c.then-atom-eq0.either)) (c.loop-literal.invariant w)
-
-pub loop-literal-preserved-then-assignment-atom-gt1 : goal.loop-literal-preserved-then-assignment-atom-gt1
-loop-literal-preserved-then-assignment-atom-gt1 c w =
-    let ls = c.args.literals.now in
-    let j = c.loop-literal.literal-index in
-    let z = get_or ls j (pos 0) in
-    let p = c.args.assignment.now in
-    let f : SFits w16 z = search rules in
-    let a : c.unsigned_abs-atom.result ≡ nat_abs z = simp to_z-of_z at c.unsigned_abs-atom.ensures.value in
-    let i = c.unsigned_abs-atom.result - 1 in
-    let e : i ≡ place z = place_atom z _ a c.if-atom-eq0.false in
-    let r = at_read p i (search rules) in
-    named_skip p ls j _ _ (λ _ k. let k' : at p i < 2 = subst (λ x. at p x < 2) (sym e) k in omega arith) (c.loop-literal.invariant w)
-
-pub loop-literal-preserved-then-atom-ticks : goal.loop-literal-preserved-then-atom-ticks
-loop-literal-preserved-then-atom-ticks c w = absurd (omega arith)
+    let back : to_z w16 (of_z w16 (get_or ls j (pos 0))) ≡ get_or ls j (pos 0) = search rules in
+    let all : c.min-atoms.result ≡ length p = search rules in
+    let off : None ≡ place_in (length p) (get_or ls j (pos 0)) = search rules in
+    named_skip p ls j _ _ (none_known p (get_or ls j (pos 0)) off) (c.loop-literal.invariant w)
 
 pub loop-literal-preserved : goal.loop-literal-preserved
 loop-literal-preserved c w =
     let ls = c.args.literals.now in
     let j = c.loop-literal.literal-index in
-    let z = get_or ls j (pos 0) in
     let p = c.args.assignment.now in
-    let f : SFits w16 z = search rules in
-    let a : c.unsigned_abs-atom.result ≡ nat_abs z = simp to_z-of_z at c.unsigned_abs-atom.ensures.value in
-    let i = c.unsigned_abs-atom.result - 1 in
+    let i = c.in-Some.place in
+    let back : to_z w16 (of_z w16 (get_or ls j (pos 0))) ≡ get_or ls j (pos 0) = search rules in
+    let on : Some i ≡ place_in c.min-atoms.result (get_or ls j (pos 0)) = search rules in
+    let a = placed c.min-atoms.result (get_or ls j (pos 0)) i on in
     let r = at_read p i (search rules) in
-    named_tick p ls j _ c.loop-literal.ticks i (place_atom z _ a c.if-atom-eq0.false) (real_atom z _ a c.if-atom-eq0.false) (omega arith) (search rules) (c.loop-literal.invariant w)
+    elim c.if-assignment-place-lt2.branch [
+      | then-assignment-place-lt2 y ↦ subst (Adds (Named p ls (j + 1)) c.args.ticks.now) (sym y.ticks-is)
+          (named_tick p ls j _ _ i a.here a.real (omega arith) (search rules) (c.loop-literal.invariant w))
+      | else-assignment-place-lt2 y ↦ subst (Adds (Named p ls (j + 1)) c.args.ticks.now) (sym y.ticks-is)
+          (named_skip p ls j _ _ (λ _ k. let known : at p i < 2 = subst (λ x. at p x < 2) (sym a.here) k in omega arith) (c.loop-literal.invariant w))
+    ]

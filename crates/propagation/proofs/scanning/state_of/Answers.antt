@@ -1,6 +1,5 @@
-use Rattle.std.proofs.Common.{◌≡◌, get_or, take, pos, subst, take_all, w16, to_z, of_z, rules}
+use Rattle.std.proofs.Common.{◌≡◌, ◌+◌, Some, None, get_or, take, pos, sym, subst, w16, to_z, of_z, rules}
 use Rattle.assignments.specs.Literals.{met}
-use Rattle.propagation.specs.States.{Left, Refuted}
 use Rattle.propagation.proofs.ClauseSteps.{SoFar, sofar_fails, sofar_open, met_at}
 use Rattle.propagation.proofs.scanning.state_of.Goals as goal
 
@@ -16,7 +15,7 @@ loop-literal-preserved-in-Fails c =
     let ls = c.args.clause.now in
     let i = c.loop-literal.literal-index in
     let back : to_z w16 (of_z w16 (get_or ls i (pos 0))) ≡ get_or ls i (pos 0) = search rules in
-    sofar_fails c.args.from c.args.assignment.now ls i c.loop-literal-test.true c.loop-literal.seen c.loop-literal.place c.loop-literal.value c.loop-literal.invariant (rw back at c.in-Fails.ensures)
+    sofar_fails c.args.from c.args.assignment.now ls i c.loop-literal-test.true c.loop-literal.open c.loop-literal.invariant (rw back at c.in-Fails.ensures)
 
 pub loop-literal-preserved : goal.loop-literal-preserved
 loop-literal-preserved c =
@@ -24,19 +23,7 @@ loop-literal-preserved c =
     let i = c.loop-literal.literal-index in
     let p = c.args.assignment.now in
     let back : to_z w16 (of_z w16 (get_or ls i (pos 0))) ≡ get_or ls i (pos 0) = search rules in
-    let so = subst (λ b. SoFar c.args.from p (λ q. met q (take i ls)) b c.loop-literal.place c.loop-literal.value) c.if-seen.false c.loop-literal.invariant in
-    sofar_open c.args.from p ls i c.loop-literal-test.true c.in-Open.i c.in-Open.v so (rw back at c.in-Open.ensures)
-
-pub returns-then-seen-2 : goal.returns-then-seen-2
-returns-then-seen-2 c =
-    let all = take_all _ _ c.loop-literal-test.false in
-    let p = c.args.assignment.now in
-    let so = subst (λ b. SoFar c.args.from p (λ q. met q (take c.loop-literal.literal-index c.args.clause.now)) b c.loop-literal.place c.loop-literal.value) c.if-seen-2.true c.loop-literal.invariant in
-    subst (λ ls. Left c.args.from p (λ q. met q ls) c.loop-literal.place c.loop-literal.value) all so
-
-pub returns : goal.returns
-returns c =
-    let all = take_all _ _ c.loop-literal-test.false in
-    let p = c.args.assignment.now in
-    let so = subst (λ b. SoFar c.args.from p (λ q. met q (take c.loop-literal.literal-index c.args.clause.now)) b c.loop-literal.place c.loop-literal.value) c.if-seen-2.false c.loop-literal.invariant in
-    subst (λ ls. Refuted c.args.from p (λ q. met q ls)) all so
+    let none : c.loop-literal.open ≡ None = search rules in
+    let one : c.replace.new.self ≡ Some c.in-Open.wanted = search rules in
+    let so = subst (SoFar c.args.from p (λ q. met q (take i ls))) none c.loop-literal.invariant in
+    subst (SoFar c.args.from p (λ q. met q (take (i + 1) ls))) (sym one) (sofar_open c.args.from p ls i c.loop-literal-test.true c.in-Open.wanted so (rw back at c.in-Open.ensures))

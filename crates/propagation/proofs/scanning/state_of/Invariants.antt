@@ -4,4 +4,4 @@ use Rattle.propagation.proofs.ClauseSteps.{SoFar}
 use Rattle.propagation.proofs.scanning.state_of.Given as goal
 
 abbrev pub invariant-loop-literal : goal.invariant-loop-literal
-invariant-loop-literal l = SoFar l.from l.assignment (λ q. met q (take l.literal-index l.clause)) l.seen l.place l.value
+invariant-loop-literal l = SoFar l.from l.assignment (λ q. met q (take l.literal-index l.clause)) l.open

@@ -1,62 +1,29 @@
-use Rattle.std.proofs.Common.{◌≡◌, ◌-◌, ◌<◌, true, false, length, get_or, pos, nat_abs, inl, inr, ⊎_elim, arith, w16, SFits, rules}
+use Rattle.std.proofs.Common.{◌≡◌, ◌∙◌, sym, true, length, get_or, pos, Some, None, arith, w16, SFits, rules}
+use Rattle.std.specs.Option.{option_copied}
 use Rattle.std.proofs.lemmas.Int.{to_z-of_z}
+use Rattle.assignments.specs.Literals.{place_in}
 use Rattle.assignments.proofs.ByteLaws.{at_read}
-use Rattle.propagation.specs.Literals.{place, wanted}
-use Rattle.propagation.proofs.LiteralLaws.{real_atom, place_atom}
+use Rattle.propagation.specs.Literals.{wanted}
 use Rattle.seeking.specs.Including.{chosen}
-use Rattle.seeking.proofs.Assuming.{stands_skip, stands_same, stands_set, stands_all, none_named, none_differs, at_length}
+use Rattle.propagation.proofs.LiteralLaws.{placed}
+use Rattle.seeking.proofs.Assuming.{stands_same, stands_set, stands_all, none_named, none_differs}
+use Rattle.seeking.proofs.including.assume.Goals.{then-assignment-place-gt1, else-assignment-place-gt1+else-assignment-place}
 use Rattle.seeking.proofs.including.assume.Goals as goal
 
-pub loop-index-preserved-then-not-is_chosen : goal.loop-index-preserved-then-not-is_chosen
-loop-index-preserved-then-not-is_chosen c =
-    let off : chosen c.args.all c.args.ticks.now c.loop-index.index ≡ false = search rules in
-    stands_skip _ _ _ _ c.loop-index.assignment c.loop-index.index c.loop-index.invariant off
-
-pub returns-then-atom-eq0 : goal.returns-then-atom-eq0
-returns-then-atom-eq0 c =
+pub returns-then-assignment-place : goal.returns-then-assignment-place
+returns-then-assignment-place c =
     let ls = c.args.assumed.now in
     let j = c.loop-index.index in
     let w = c.loop-index.assignment in
     let z = get_or ls j (pos 0) in
-    let pick : chosen c.args.all c.args.ticks.now j ≡ true = search rules in
+    let k = c.in-Some.place in
     let f : SFits w16 z = search rules in
-    let a : c.unsigned_abs-atom.result ≡ nat_abs z = simp to_z-of_z at c.unsigned_abs-atom.ensures.value in
-    let long : length w ≡ length c.args.assignment.now = search rules in
-    none_named ls c.args.all c.args.ticks.now (length c.args.assignment.now) w j (at_length c.unknown.auto.assignment c.loop-index.invariant) _ a (⊎_elim inl (λ x. inr (omega arith)) c.then-atom-eq0.either) (search rules) pick
-
-pub loop-index-preserved-then-assignment-atom-gt1 : goal.loop-index-preserved-then-assignment-atom-gt1
-loop-index-preserved-then-assignment-atom-gt1 c =
-    let ls = c.args.assumed.now in
-    let j = c.loop-index.index in
-    let w = c.loop-index.assignment in
-    let z = get_or ls j (pos 0) in
-    let pick : chosen c.args.all c.args.ticks.now j ≡ true = search rules in
-    let f : SFits w16 z = search rules in
-    let a : c.unsigned_abs-atom.result ≡ nat_abs z = simp to_z-of_z at c.unsigned_abs-atom.ensures.value in
+    let p : Some k ≡ place_in (length w) z = simp to_z-of_z at c.in-Some.ensures.place in
     let v : c.wanted-value.result ≡ wanted z = simp to_z-of_z at c.wanted-value.ensures in
-    let k = c.unsigned_abs-atom.result - 1 in
-    let pl : k ≡ place z = place_atom z _ a c.if-atom-eq0.false in
-    let real = real_atom z _ a c.if-atom-eq0.false in
-    let within : k < length w = search rules in
-    let b = at_read w k within in
-    stands_set ls c.args.all c.args.ticks.now _ w j c.loop-index.invariant real k _ pl v (λ known. omega arith) within pick
-
-pub returns-then-assignment-atom : goal.returns-then-assignment-atom
-returns-then-assignment-atom c =
-    let ls = c.args.assumed.now in
-    let j = c.loop-index.index in
-    let w = c.loop-index.assignment in
-    let z = get_or ls j (pos 0) in
-    let pick : chosen c.args.all c.args.ticks.now j ≡ true = search rules in
-    let f : SFits w16 z = search rules in
-    let a : c.unsigned_abs-atom.result ≡ nat_abs z = simp to_z-of_z at c.unsigned_abs-atom.ensures.value in
-    let v : c.wanted-value.result ≡ wanted z = simp to_z-of_z at c.wanted-value.ensures in
-    let k = c.unsigned_abs-atom.result - 1 in
-    let pl : k ≡ place z = place_atom z _ a c.if-atom-eq0.false in
-    let real = real_atom z _ a c.if-atom-eq0.false in
-    let within : k < length w = search rules in
-    let b = at_read w k within in
-    none_differs ls c.args.all c.args.ticks.now (length c.args.assignment.now) w j (at_length c.unknown.auto.assignment c.loop-index.invariant) real k _ pl v (omega arith) (λ e. omega arith) (search rules) pick
+    let at_k = placed (length w) z k p in
+    let b = at_read w k at_k.within in
+    let pick : chosen (option_copied c.args.only) j ≡ true = search rules in
+    none_differs ls (option_copied c.args.only) (length c.args.assignment.now) w j c.loop-index.invariant k _ at_k v (omega arith) (λ e. omega arith) (search rules) pick
 
 pub loop-index-preserved : goal.loop-index-preserved
 loop-index-preserved c =
@@ -64,16 +31,29 @@ loop-index-preserved c =
     let j = c.loop-index.index in
     let w = c.loop-index.assignment in
     let z = get_or ls j (pos 0) in
-    let pick : chosen c.args.all c.args.ticks.now j ≡ true = search rules in
+    let k = c.in-Some.place in
     let f : SFits w16 z = search rules in
-    let a : c.unsigned_abs-atom.result ≡ nat_abs z = simp to_z-of_z at c.unsigned_abs-atom.ensures.value in
+    let p : Some k ≡ place_in (length w) z = simp to_z-of_z at c.in-Some.ensures.place in
     let v : c.wanted-value.result ≡ wanted z = simp to_z-of_z at c.wanted-value.ensures in
-    let k = c.unsigned_abs-atom.result - 1 in
-    let pl : k ≡ place z = place_atom z _ a c.if-atom-eq0.false in
-    let real = real_atom z _ a c.if-atom-eq0.false in
-    let within : k < length w = search rules in
-    let b = at_read w k within in
-    stands_same ls c.args.all c.args.ticks.now _ w j c.loop-index.invariant real k _ pl v (omega arith)
+    let at_k = placed (length w) z k p in
+    let b = at_read w k at_k.within in
+    let pick : chosen (option_copied c.args.only) j ≡ true = search rules in
+    elim c.if-assignment-place-gt1.branch [
+      | then-assignment-place-gt1 w' ↦ rw w'.assignment-is (stands_set ls (option_copied c.args.only) _ w j c.loop-index.invariant k _ at_k v (λ known. omega arith) at_k.within pick)
+      | else-assignment-place-gt1+else-assignment-place w' ↦ rw w'.assignment-is (stands_same ls (option_copied c.args.only) _ w j c.loop-index.invariant k _ at_k v (omega arith))
+    ]
+
+pub returns-in_default : goal.returns-in_default
+returns-in_default c =
+    let ls = c.args.assumed.now in
+    let j = c.loop-index.index in
+    let w = c.loop-index.assignment in
+    let z = get_or ls j (pos 0) in
+    let f : SFits w16 z = search rules in
+    let none : c.place_of.result ≡ None = search rules in
+    let p : None ≡ place_in (length w) z = sym none ∙ simp to_z-of_z at c.place_of.ensures.place in
+    let pick : chosen (option_copied c.args.only) j ≡ true = search rules in
+    none_named ls (option_copied c.args.only) (length c.args.assignment.now) w j c.loop-index.invariant p (search rules) pick
 
 pub returns : goal.returns
-returns c = stands_all _ _ _ (length c.args.assignment.now) c.loop-index.assignment c.loop-index.index c.loop-index-test.false c.loop-index.auto.index-end (at_length c.unknown.auto.assignment c.loop-index.invariant)
+returns c = stands_all _ _ _ c.loop-index.assignment c.loop-index.index c.loop-index.invariant c.loop-index-test.false c.loop-index.auto.index-end

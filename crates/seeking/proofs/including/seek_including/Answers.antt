@@ -2,11 +2,7 @@ use Rattle.std.proofs.Common.{◌≡◌, length, arith, rules}
 use Rattle.seeking.proofs.Assuming.{including_sought_at}
 use Rattle.seeking.proofs.including.seek_including.Goals as goal
 
-pub returns : goal.returns
-returns g c =
+pub returns-then-assume-clause-sought : goal.returns-then-assume-clause-sought
+returns-then-assume-clause-sought g c w =
     let long : length c.assume.new.assignment ≡ length c.args.found.now = search rules in
-    record {
-      meaning = c.complete.ensures.meaning;
-      sought = λ w.
-          including_sought_at _ _ _ _ _ _ c.assume.new.assignment _ c.complete.result long c.if-not-assume.ensures (c.complete.ensures.sought (omega arith));
-    }
+    including_sought_at _ _ _ _ _ c.assume.new.assignment _ c.complete.result long c.if-assume.ensures (c.complete.ensures.sought (omega arith))

@@ -6,5 +6,7 @@ use Rattle.seeking.proofs.Shrinking.{Shrunk}
 use Rattle.seeking.proofs.including.tick_core.Given as goal
 
 abbrev pub invariant-loop-index : goal.invariant-loop-index
-invariant-loop-index g l = (g.V.Veto.means l.veto ≡ g.V.Veto.means l.initial.veto)
-    × (length l.initial.scratch ≤ atom_limit → length l.assumed ≤ length l.initial.ticks → Shrunk (Allowed (clauses_of l.book) (g.V.Veto.means l.initial.veto).speaks) (length l.initial.scratch) l.assumed l.initial.ticks l.ticks l.index)
+invariant-loop-index g l = record {
+  meaning : g.V.Veto.means l.veto ≡ g.V.Veto.means l.initial.veto;
+  shrunk : length l.initial.scratch ≤ atom_limit → length l.assumed ≤ length l.fn.ticks → Shrunk (Allowed (clauses_of l.book) (g.V.Veto.means l.initial.veto).speaks) (length l.initial.scratch) l.assumed l.fn.ticks l.ticks l.index;
+}

@@ -1,4 +1,4 @@
-use Rattle.std.proofs.Common.{length, sym, refl, ap}
+use Rattle.std.proofs.Common.{length, sym, ap}
 use Rattle.clauses.proofs.Fronts.{literals_grow, stretches_grow, still_ranged, still_whole, one_more}
 use Rattle.clauses.proofs.book.ClauseBook.add.Goals as goal
 
@@ -6,16 +6,16 @@ pub invariant_of-self : goal.invariant_of-self
 invariant_of-self c =
     let b = c.args.self.now in
     let new = c.args.clause.now in
-    let free = sym c.in-None.ensures in
+    let free = sym c.in_ok-accepts.ensures in
     let ls = literals_grow b new free _ _ c.extend.ensures.value c.extend.ensures.items in
     let ss = stretches_grow b new free _ _ _ c.push.ensures.value (ap length c.as_slice-start.ensures) c.push.ensures.items in
     record { few = b.few; ranged = still_ranged b new free _ _ ls ss; whole = still_whole b new free _ _ ls ss }
 
-pub returns-in-None : goal.returns-in-None
-returns-in-None c =
+pub returns-clause-clauses : goal.returns-clause-clauses
+returns-clause-clauses c =
     let b = c.args.self.now in
     let new = c.args.clause.now in
-    let free = sym c.in-None.ensures in
+    let free = sym c.in_ok-accepts.ensures in
     let ls = literals_grow b new free _ _ c.extend.ensures.value c.extend.ensures.items in
     let ss = stretches_grow b new free _ _ _ c.push.ensures.value (ap length c.as_slice-start.ensures) c.push.ensures.items in
-    record { refused = c.in-None.ensures; clauses = one_more b new free _ _ ls ss; atoms = refl }
+    one_more b new free _ _ ls ss

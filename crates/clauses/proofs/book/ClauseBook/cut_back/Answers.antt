@@ -1,4 +1,4 @@
-use Rattle.std.proofs.Common.{◌≡◌, true, length, take, sym, refl, ap, ◌∙◌, subst}
+use Rattle.std.proofs.Common.{◌≡◌, true, length, take, sym, ap, ◌∙◌, subst}
 use Rattle.tables.specs.Items.{entries}
 use Rattle.assignments.specs.Literals.{all_in_range}
 use Rattle.clauses.specs.Stretches.{laid, parts}
@@ -23,16 +23,12 @@ invariant_of-self c =
           (subst (λ l. laid 0 (take k ss) (length l) ≡ true) (sym lits) (front_laid ss ls b.whole k m e));
     }
 
-pub returns : goal.returns
-returns c =
+pub returns-clause-clauses : goal.returns-clause-clauses
+returns-clause-clauses c =
     let b = c.args.self.now in
     let ls = entries b.literals in
     let ss = entries b.stretches in
     let k = c.args.to.clauses in
     let m = c.args.to.literals in
     let e : m ≡ lens (take k ss) = front_lens ls ss b.whole k m c.if-not-is_front.ensures in
-    record {
-      value = c.if-not-is_front.ensures;
-      clauses = ap (λ l. parts l (entries c.truncate.new.self)) c.truncate-2.ensures ∙ ap (parts (take m ls)) c.truncate.ensures ∙ front_parts ss ls b.whole k m e;
-      atoms = refl;
-    }
+    ap (λ l. parts l (entries c.truncate.new.self)) c.truncate-2.ensures ∙ ap (parts (take m ls)) c.truncate.ensures ∙ front_parts ss ls b.whole k m e

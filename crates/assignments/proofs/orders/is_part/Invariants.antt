@@ -1,6 +1,0 @@
-use Rattle.std.proofs.Common.{◌≡◌, ℕ, ◌<◌}
-use Rattle.assignments.specs.Assignments.{at}
-use Rattle.assignments.proofs.orders.is_part.Given as goal
-
-abbrev pub invariant-loop-i : goal.invariant-loop-i
-invariant-loop-i l = (k : ℕ) → k < l.i → at l.part k < 2 → at l.whole k ≡ at l.part k
