@@ -1,4 +1,5 @@
 pub mod Limits
+pub mod Counting
 pub mod Stretches
 pub mod Books
 pub mod Adding

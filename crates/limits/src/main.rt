@@ -20,21 +20,12 @@ fn tell<D: Display + Drop>(
 }
 
 fn tell_counts(rt: &HostRuntime, book: &ClauseBook) -> io::Result<()> {
-    let counts = book.counts();
-    println!(rt;
-        "held: {} clauses, {} literals",
-        counts.clauses, counts.literals
-    )
+    println!(rt; "held: {}", book.counts())
 }
 
 fn tell_fresh(rt: &HostRuntime, atoms: usize) -> io::Result<()> {
-    match ClauseBook::fresh(atoms) {
-        Ok(book) => println!(rt; "book over {} atoms: accepted", book.atoms()),
-        Err(refusal) => println!(rt;
-            "book over {atoms} atoms: refused {}, {refusal}",
-            refusal.number()
-        ),
-    }
+    let answer = ClauseBook::fresh(atoms).map(|_| ());
+    tell(rt, format_args!("book over {atoms} atoms"), answer)
 }
 
 // Adds the clause so many times, and answers with the first refusal.

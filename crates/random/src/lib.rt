@@ -21,7 +21,7 @@ impl Model for Random {
 }
 
 impl Random {
-    // The state is odd, and so never 0.
+    // The first state is odd.
     pub fn new(seed: u64) -> Random
         ensures start { result ≡ bit_or (seed * 0x9e37_79b9_7f4a_7c15 % 2 ^ 64) 1 }
         ensures odd { result % 2 ≡ 1 }

@@ -14,7 +14,7 @@ pub record Marks (p t : List ℕ) : Type 0 where
   pub bits : (i : ℕ) → slice_index t i < 2
   pub known : (i : ℕ) → slice_index t i ≡ 1 → at p i < 2
 
--- the marks t with atom a too, where p knows it
+-- the marks t with atom a too, where p knows it; an atom past the limit has no mark
 abbrev pub marked : List ℕ → ℕ → List ℕ → List ℕ
 marked p a t = cond (nat_lt (atom p a) 2) (slice_set t (a - 1) 1) t
 

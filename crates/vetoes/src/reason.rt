@@ -26,7 +26,7 @@ impl<'a> Reason<'a> {
         }
     }
 
-    // The atom becomes part of the reason, where it is known.
+    // The atom becomes part of the reason, where it is known and there is a mark for it.
     pub fn mark(&mut self, atom: AtomNumber)
         ensures of { self.new.assignment.now ≡ self.old.assignment.now }
         ensures marks { self.new.marks ≡ marked self.old.assignment.now atom self.old.marks }

@@ -82,11 +82,7 @@ fn main(rt: HostRuntime) -> anyhow::Result<()> {
     for clause in [[1, 2], [-1, -2], [2, 4], [-2, 3]] {
         wish(&rt, &mut book, &clause)?;
     }
-    let counts = book.counts();
-    println!(rt;
-        "held: {} clauses, {} literals",
-        counts.clauses, counts.literals
-    )?;
+    println!(rt; "held: {}", book.counts())?;
     println!(rt; "current: at most 380 mA; raw output 300, filter 250, brake 100")?;
     let rows = [(0, 380u32), (1, 300), (2, 250), (3, 100)].map(|(atom, load)| Row { atom, load });
     try_all(&rt, &book, &mut Load::new(&rows[..]))?;
