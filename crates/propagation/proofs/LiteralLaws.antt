@@ -1,9 +1,8 @@
 -- A literal by its place and the value that it wants. Assumes nothing.
-use Rattle.std.proofs.Common.{◌≡◌, ℕ, zero, suc, ◌<◌, ◌≤◌, Bool, true, false, cond, eqb, nat_lt, Some, None, List, length, ℤ, pos, negsuc, nat_abs, refl, ap, arith}
+use Rattle.std.proofs.Common.{◌≡◌, ℕ, zero, suc, ◌<◌, ◌≤◌, Bool, true, false, cond, eqb, nat_lt, Some, None, List, ℤ, pos, negsuc, nat_abs, refl, ap, arith}
 use Rattle.std.proofs.lemmas.Bool.Decides.{nat_tests}
 use Rattle.assignments.specs.Assignments.{at}
 use Rattle.assignments.specs.Literals.{true_at, place_in}
-use Rattle.assignments.proofs.ByteLaws.{at_within}
 use Rattle.propagation.specs.Literals.{place, wanted}
 
 abbrev pub Real : ℤ → Type 0
@@ -36,8 +35,8 @@ placed n (negsuc k) i e = let h = chosen (nat_lt k n) i k e in record { real = �
 passed : (n k : ℕ) → None ≡ cond (nat_lt k n) (Some k) None → n ≤ k
 passed n k e = grind (arith, nat_tests)
 
--- a literal that is 0, or names no byte of p, names no known atom
-pub none_known : (p : List ℕ) (z : ℤ) → None ≡ place_in (length p) z → Real z → at p (place z) < 2 → ⊥
-none_known p (pos zero) e r k = r refl
-none_known p (pos (suc i)) e r k = let x = at_within p i k in let y = passed (length p) i e in omega arith
-none_known p (negsuc i) e r k = let x = at_within p i k in let y = passed (length p) i e in omega arith
+-- a literal that is 0, or names none of the first n atoms
+pub none_in : (n : ℕ) (z : ℤ) → None ≡ place_in n z → Real z → place z < n → ⊥
+none_in n (pos zero) e r h = r refl
+none_in n (pos (suc i)) e r h = let y = passed n i e in omega arith
+none_in n (negsuc i) e r h = let y = passed n i e in omega arith

@@ -1,9 +1,10 @@
 -- Ticks that are added one by one. Assumes nothing.
-use Rattle.std.proofs.Common.{◌≡◌, ℕ, ◌+◌, ◌<◌, ◌⊎◌, List, length, get_or, set, ℤ, pos, sym, refl, ap, ◌∙◌, subst, inl, inr, ⊎_elim, arith, get_or-set_other, get_or-set_same}
+use Rattle.std.proofs.Common.{◌≡◌, ℕ, ◌+◌, ◌<◌, ◌≤◌, ◌⊎◌, List, length, get_or, set, ℤ, pos, sym, refl, ap, ◌∙◌, subst, inl, inr, ⊎_elim, arith, get_or-set_other, get_or-set_same}
 use Rattle.std.proofs.lemmas.Bool.{cases_eq}
 use Rattle.assignments.specs.Assignments.{at}
 use Rattle.propagation.specs.Literals.{place}
-use Rattle.propagation.specs.Ticking.{Adds, Named}
+use Rattle.assignments.proofs.ByteLaws.{at_within}
+use Rattle.propagation.specs.Ticking.{Adds, Named, Inside}
 use Rattle.propagation.proofs.LiteralLaws.{Real}
 
 pub adds_none : (N : ℕ → Type 0) (t : List ℕ) → ((j : ℕ) → N j → ⊥) → Adds N t t
@@ -26,26 +27,36 @@ module _ (N N' : ℕ → Type 0) (t u : List ℕ) (more : (j : ℕ) → N j → 
       still : (j : ℕ) → get_or u j 0 ≡ 1 → get_or (set u i 1) j 0 ≡ 1
       still j e = ⊎_elim (λ (s : j ≡ i). rw s (get_or-set_same u i 1 0 h)) (λ (s : j ≡ i → ⊥). get_or-set_other u i j 1 0 s ∙ e) (cases_eq j i)
 
--- a turn over the literals of c: literal j names a known atom, or it does not
-module _ (p : List ℕ) (c : List ℤ) (j : ℕ) where
-  further : (i : ℕ) → Named p c j i → Named p c (j + 1) i
-  further i m = let w = m.within in record { known = m.known; spot = m.spot; within = omega arith; real = m.real; here = m.here }
+-- where there is a tick for each byte, none is left out
+pub named_whole : (p : List ℕ) (c : List ℤ) (j : ℕ) (t u : List ℕ) → length p ≤ length t → Adds (Inside (length t) (Named p c j)) t u → Adds (Named p c j) t u
+named_whole p c j t u h a = adds_same (Inside (length t) (Named p c j)) (Named p c j) t u (λ i m. m.has)
+    (λ i m. record { below = let w = at_within p i m.known in omega arith; has = m }) a
 
-  earlier : (i : ℕ) (m : Named p c (j + 1) i) → (m.spot ≡ j → ⊥) → Named p c j i
-  earlier i m ne = let w = m.within in record { known = m.known; spot = m.spot; within = omega arith; real = m.real; here = m.here }
+-- a turn over the literals of c: literal j names a known atom that has a tick, or it does not
+module _ (n : ℕ) (p : List ℕ) (c : List ℤ) (j : ℕ) where
+  abbrev To : ℕ → ℕ → Type 0
+  To k = Inside n (Named p c k)
 
-  pub named_skip : (t u : List ℕ) → (Real (get_or c j (pos 0)) → at p (place (get_or c j (pos 0))) < 2 → ⊥) → Adds (Named p c j) t u → Adds (Named p c (j + 1)) t u
-  named_skip t u off a = adds_same (Named p c j) (Named p c (j + 1)) t u further
-      (λ i m. earlier i m (λ (e : m.spot ≡ j). off
+  further : (i : ℕ) → To j i → To (j + 1) i
+  further i x = let m = x.has in let w = m.within in record { below = x.below; has = record { known = m.known; spot = m.spot; within = omega arith; real = m.real; here = m.here } }
+
+  earlier : (i : ℕ) (x : To (j + 1) i) → (x.has.spot ≡ j → ⊥) → To j i
+  earlier i x ne = let m = x.has in let w = m.within in record { below = x.below; has = record { known = m.known; spot = m.spot; within = omega arith; real = m.real; here = m.here } }
+
+  pub named_skip : (t u : List ℕ) → (Real (get_or c j (pos 0)) → at p (place (get_or c j (pos 0))) < 2 → place (get_or c j (pos 0)) < n → ⊥) → Adds (To j) t u → Adds (To (j + 1)) t u
+  named_skip t u off a = adds_same (To j) (To (j + 1)) t u further
+      (λ i x. let m = x.has in earlier i x (λ (e : m.spot ≡ j).
+      let s : i ≡ place (get_or c j (pos 0)) = sym (sym (ap (λ s. place (get_or c s (pos 0))) e) ∙ m.here) in off
       (subst (λ s. Real (get_or c s (pos 0))) e m.real)
-      (subst (λ x. at p x < 2) (sym (sym (ap (λ s. place (get_or c s (pos 0))) e) ∙ m.here)) m.known)))
+      (subst (λ x. at p x < 2) s m.known)
+      (subst (λ y. y < n) s x.below)))
       a
 
-  pub named_tick : (t u : List ℕ) (i : ℕ) → i ≡ place (get_or c j (pos 0)) → Real (get_or c j (pos 0)) → at p i < 2 → i < length u → Adds (Named p c j) t u → Adds (Named p c (j + 1)) t (set u i 1)
-  named_tick t u i e real k h a = adds_one (Named p c j) (Named p c (j + 1)) t u further i h
-      (record { known = k; spot = j; within = omega arith; real = real; here = sym e })
-      (λ x m. ⊎_elim
+  pub named_tick : (t u : List ℕ) (i : ℕ) → i ≡ place (get_or c j (pos 0)) → Real (get_or c j (pos 0)) → at p i < 2 → i < n → i < length u → Adds (To j) t u → Adds (To (j + 1)) t (set u i 1)
+  named_tick t u i e real k b h a = adds_one (To j) (To (j + 1)) t u further i h
+      (record { below = b; has = record { known = k; spot = j; within = omega arith; real = real; here = sym e } })
+      (λ y x. let m = x.has in ⊎_elim
       (λ (s : m.spot ≡ j). inl (sym m.here ∙ ap (λ y. place (get_or c y (pos 0))) s ∙ sym e))
-      (λ (s : m.spot ≡ j → ⊥). inr (earlier x m s))
+      (λ (s : m.spot ≡ j → ⊥). inr (earlier y x s))
       (cases_eq m.spot j))
       a

@@ -16,3 +16,8 @@ pub record Named (p : List ℕ) (c : List ℤ) (j i : ℕ) : Type 0 where
   pub within : spot < j
   pub real : get_or c spot (pos 0) ≡ pos 0 → ⊥
   pub here : place (slice_index_or c spot (pos 0)) ≡ i
+
+-- the place i has N, and lies before the end n
+pub record Inside (n : ℕ) (N : ℕ → Type 0) (i : ℕ) : Type 0 where
+  pub below : i < n
+  pub has : N i

@@ -1,7 +1,7 @@
 // The known atoms of a clause, as ticks.
-ghost use Rattle.std.specs.Prelude.{◌≤◌, [], length, slice_index_or};
+ghost use Rattle.std.specs.Prelude.{[], length, slice_index_or};
 ghost use Rattle.clauses.specs.Books.{clauses_of};
-ghost use Rattle.propagation.specs.Ticking.{Adds, Named};
+ghost use Rattle.propagation.specs.Ticking.{Adds, Named, Inside};
 
 use assignments::Literal;
 use assignments::literals::place_of;
@@ -9,7 +9,7 @@ use clauses::book::ClauseBook;
 
 // Ticks the known atoms that the literals name, as far as the ticks go.
 pub fn tick_known(literals: &[Literal], assignment: &[u8], ticks: &mut [u8])
-    ensures { length assignment.now ≤ length ticks.old → Adds (Named assignment.now literals.now (length literals.now)) ticks.old ticks.new }
+    ensures { Adds (Inside (length ticks.old) (Named assignment.now literals.now (length literals.now))) ticks.old ticks.new }
 {
     let atoms = assignment.len().min(ticks.len());
     for literal in literals {
@@ -24,7 +24,7 @@ pub fn tick_known(literals: &[Literal], assignment: &[u8], ticks: &mut [u8])
 
 // The same for the clause of this index.
 pub fn explain(book: &ClauseBook, index: usize, assignment: &[u8], ticks: &mut [u8])
-    ensures { length assignment.now ≤ length ticks.old → Adds (Named assignment.now (slice_index_or (clauses_of book.now) index []) (length (slice_index_or (clauses_of book.now) index []))) ticks.old ticks.new }
+    ensures { Adds (Inside (length ticks.old) (Named assignment.now (slice_index_or (clauses_of book.now) index []) (length (slice_index_or (clauses_of book.now) index [])))) ticks.old ticks.new }
 {
     if let Some(clause) = book.clause(index) {
         tick_known(clause, assignment, ticks);

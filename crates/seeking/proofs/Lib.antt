@@ -1,4 +1,4 @@
 pub mod Fitting
 pub mod Raising
-pub mod Assuming
+pub mod Assumptions
 pub mod Shrinking

@@ -2,6 +2,9 @@
 // assumed literals.
 #![tactic(auto)]
 
+mod assuming;
 pub mod beyond;
-pub mod completing;
+mod completing;
+mod cores;
+pub mod first;
 pub mod including;

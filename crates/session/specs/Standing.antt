@@ -1,14 +1,17 @@
 -- When a session's table stands for a ledger, and what a call owes then. Assumes nothing.
-use Rattle.std.specs.Prelude.{◌≡◌, ℕ, zero, suc, true, List, [], ◌∷◌, take, ℤ, Some, None, Ok, Err, Option, Result, slice_index_or}
+use Rattle.std.specs.Prelude.{◌≡◌, ℕ, zero, suc, ◌<◌, true, List, [], ◌∷◌, length, take, ℤ, Some, None, Ok, Err, Option, Result, slice_index_or}
 use Rattle.std.specs.Borrow.{Bor}
 use Rattle.refusals.specs.declared.Refusal.{Refusal}
 use Rattle.assignments.specs.Assignments.{Complete}
+use Rattle.assignments.specs.Limits.{atom_limit}
 use Rattle.clauses.specs.declared.stretch.Counts.{Counts}
 use Rattle.clauses.specs.Books.{atoms_of, clauses_of}
 use Rattle.clauses.specs.Adding.{is_front}
 use Rattle.vetoes.specs.Meaning.{Meaning}
+use Rattle.search.specs.declared.find.Finding.{Finding}
+use Rattle.search.specs.declared.find.Finding.TheVariants.{Found, Nothing}
 use Rattle.ledgers.specs.Ledger.{Position, before_first, reached, past_end, Ledger, Call, Answer, accepted, handed_out, no_more, chosen, clash, refused, advance}
-use Rattle.ledgers.specs.Admitted.{Beyond}
+use Rattle.ledgers.specs.Admitted.{Beyond, LeastOf}
 use Rattle.ledgers.specs.Right.{Right}
 use Rattle.session.specs.declared.table.Place.{Place}
 use Rattle.session.specs.declared.table.Place.TheVariants.{BeforeFirst, Reached, PastEnd}
@@ -57,6 +60,12 @@ pub record Ahead (P : List ℕ → Type 0) (n : ℕ) (pos : Position) (q : List 
   pub complete : Complete n q
   pub has : P q
   pub beyond : Beyond pos q
+
+-- q is the least with W, or there is none. No session has so many atoms that it is refused
+abbrev pub Sought : (List ℕ → Type 0) → List ℕ → Result Finding Refusal → Type 0
+Sought W q (Ok Found) = LeastOf W q
+Sought W q (Ok Nothing) = (r : List ℕ) → W r → ⊥
+Sought W q (Err e) = atom_limit < length q
 
 -- the ledger of an unsized session
 pub record Unsized (l : Ledger) : Type 0 where

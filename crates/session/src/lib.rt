@@ -2,6 +2,6 @@
 #![tactic(auto)]
 
 pub mod handing;
-pub mod seek;
+mod seek;
 pub mod session;
 pub mod table;

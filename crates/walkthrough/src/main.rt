@@ -1,90 +1,137 @@
-// Takes one order from its clauses to the assignments that may be burned, and prints each action.
+// Plays one order through a session over a pair of vetoes, and prints each call with its answer.
 #![tactic(auto)]
 
-use assignments::Literal;
-use assignments::literals::is_met;
-use clauses::book::ClauseBook;
+use assignments::{AtomNumber, Literal};
+use cycles::arc::{Arc, SignalNumber};
+use cycles::cycle::Cycle;
 use digits::Digits;
+use loads::kind::Milliamperes;
 use loads::load::Load;
 use loads::row::Row;
-use std::{array, io};
-use vetoes::veto::{Verdict, Veto};
+use runs::play::play;
+use runs::turn::{Call, Done, Turn};
+use std::alloc::{AllocError, Global};
+use std::{fmt, io};
+use vetoes::pair::Pair;
 
 // Atom 1 is the raw output, atom 2 the filter, atom 3 the motor brake.
 const ATOMS: usize = 3;
 
-// The assignment with this number when all are counted in ascending order: the number's bits, the highest first.
-fn candidate(number: usize) -> [u8; ATOMS] {
-    array::from_fn(|i| ((number >> (ATOMS - 1 - i)) & 1) as u8)
-}
+#[derive(Clone, Copy)]
+struct Literals<'a>(&'a [Literal]);
 
-fn wish(rt: &HostRuntime, book: &mut ClauseBook, clause: &[Literal]) -> io::Result<()> {
-    match book.add(clause) {
-        Ok(()) => println!(rt; "clause {clause:?}: held, number {}", book.counts().clauses),
-        Err(refusal) => println!(rt;
-            "clause {clause:?}: refused {}, {refusal}",
-            refusal.number()
-        ),
-    }
-}
-
-// Tells each clause that the assignment fails, and answers whether it meets all.
-fn evaluate(rt: &HostRuntime, book: &ClauseBook, assignment: &[u8]) -> io::Result<bool> {
-    print!(rt; "{}", Digits(assignment))?;
-    if book.is_met_by(assignment) {
-        print!(rt; " meets every clause")?;
-        return Ok(true);
-    }
-    for (index, clause) in book.clauses().enumerate() {
-        if !is_met(assignment, clause) {
-            print!(rt; " fails clause {}", index.saturating_add(1))?;
+impl fmt::Display for Literals<'_> {
+    fn fmt<W: fmt::Write>(&self, f: &mut fmt::Formatter<W>) -> fmt::Result {
+        for literal in self.0 {
+            write!(f, " {literal}")?;
         }
+        Ok(())
     }
-    println!(rt; "")?;
-    Ok(false)
 }
 
-// Tells what the veto says, with the atoms of its reason, and answers whether it is silent.
-fn ask_veto<V: Veto>(rt: &HostRuntime, veto: &mut V, assignment: &[u8]) -> io::Result<bool> {
-    let mut ticks = [0; ATOMS];
-    match veto.examine(assignment, &mut ticks) {
-        Ok(Verdict::Silent) => {
-            println!(rt; ", may be burned")?;
-            return Ok(true);
-        }
-        Ok(Verdict::Speaks) => {
-            print!(rt; ", vetoed for atoms")?;
-            for (atom, tick) in (1..=ATOMS).zip(ticks) {
-                if tick == 1 {
-                    print!(rt; " {atom}")?;
-                }
+fn clause(heap: Global, literals: &[Literal]) -> Result<Call, AllocError> {
+    Ok(Call::Clause(literals.to_vec(heap)?))
+}
+
+fn next(heap: Global) -> Result<Call, AllocError> {
+    Ok(Call::Next([0; ATOMS].to_vec(heap)?))
+}
+
+fn ask(heap: Global, assumed: &[Literal]) -> Result<Call, AllocError> {
+    let out = [0; ATOMS].to_vec(heap)?;
+    let ticks = [0; ATOMS].to_vec(heap)?;
+    Ok(Call::Ask(assumed.to_vec(heap)?, out, ticks))
+}
+
+// The order: its clauses (one names an atom that is not there), all settings, a wish tried out in a scope, two questions.
+fn order(heap: Global) -> Result<Vec<Turn>, AllocError> {
+    let calls = [
+        Call::Size(ATOMS),
+        clause(heap, &[1, 2])?,
+        clause(heap, &[2, 4])?,
+        next(heap)?,
+        next(heap)?,
+        next(heap)?,
+        next(heap)?,
+        Call::Open,
+        clause(heap, &[-2])?,
+        Call::Rewind,
+        next(heap)?,
+        next(heap)?,
+        Call::Close,
+        next(heap)?,
+        ask(heap, &[3])?,
+        ask(heap, &[2, 1, 3])?,
+    ];
+    let reply = Ok(Done::Accepted);
+    let turns = calls.into_iter().map(|call| Turn { call, reply });
+    turns.collect(heap)
+}
+
+fn tell_call(rt: &HostRuntime, call: &Call) -> io::Result<()> {
+    match call {
+        Call::Size(atoms) => print!(rt; "size {atoms}"),
+        Call::Clause(literals) => print!(rt; "clause{}", Literals(literals)),
+        Call::Open => print!(rt; "open"),
+        Call::Close => print!(rt; "close"),
+        Call::Rewind => print!(rt; "rewind"),
+        Call::Next(_) => print!(rt; "next"),
+        Call::Ask(assumed, _, _) => print!(rt; "ask{}", Literals(assumed)),
+    }
+}
+
+// The assignment that stands in a call's buffer.
+fn written(call: &Call) -> Digits<'_> {
+    match call {
+        Call::Next(out) | Call::Ask(_, out, _) => Digits(out),
+        _ => Digits(&[]),
+    }
+}
+
+// Each assumption of the core, which is ticked by 1.
+fn tell_core(rt: &HostRuntime, call: &Call) -> io::Result<()> {
+    print!(rt; ": none, since these clash:")?;
+    if let Call::Ask(assumed, _, ticks) = call {
+        for (literal, tick) in assumed.iter().zip(ticks.iter()) {
+            if *tick == 1 {
+                print!(rt; " {literal}")?;
             }
-            println!(rt; "")?;
         }
-        Err(refusal) => println!(rt; ", refused {}", refusal.number())?,
     }
-    Ok(false)
+    println!(rt; "")
 }
 
-fn try_all<V: Veto>(rt: &HostRuntime, book: &ClauseBook, veto: &mut V) -> io::Result<()> {
-    let mut count = 0usize;
-    for assignment in (0..1usize << ATOMS).map(candidate) {
-        if evaluate(rt, book, &assignment)? && ask_veto(rt, veto, &assignment)? {
-            count = count.saturating_add(1);
-        }
+fn tell(rt: &HostRuntime, turn: &Turn) -> io::Result<()> {
+    tell_call(rt, &turn.call)?;
+    match turn.reply {
+        Ok(Done::Accepted) => println!(rt; ": accepted"),
+        Ok(Done::Handed) => println!(rt; ": {} may be burned", written(&turn.call)),
+        Ok(Done::NoMore) => println!(rt; ": no more"),
+        Ok(Done::Chosen) => println!(rt; ": {}", written(&turn.call)),
+        Ok(Done::Clash) => tell_core(rt, &turn.call),
+        Err(refusal) => println!(rt; ": refused {}, {refusal}", refusal.number()),
     }
-    println!(rt; "{count} assignments may be burned")
+}
+
+fn arc(atom: AtomNumber, from: SignalNumber, to: SignalNumber) -> Arc {
+    Arc { atom, from, to }
+}
+
+fn row(atom: AtomNumber, load: Milliamperes) -> Row<Milliamperes> {
+    Row { atom, load }
 }
 
 fn main(rt: HostRuntime) -> anyhow::Result<()> {
-    let mut book = ClauseBook::fresh(ATOMS)?;
-    println!(rt; "order over {ATOMS} atoms: 1 raw output, 2 filter, 3 brake")?;
-    for clause in [[1, 2], [-1, -2], [2, 4], [-2, 3]] {
-        wish(&rt, &mut book, &clause)?;
-    }
-    println!(rt; "held: {}", book.counts())?;
+    println!(rt; "{ATOMS} atoms: 1 raw output, 2 filter, 3 brake")?;
+    println!(rt; "signals: raw output joins 1 to 2, brake 2 to 1")?;
     println!(rt; "current: at most 380 mA; raw output 300, filter 250, brake 100")?;
-    let rows = [(0, 380u32), (1, 300), (2, 250), (3, 100)].map(|(atom, load)| Row { atom, load });
-    try_all(&rt, &book, &mut Load::new(&rows[..]))?;
+    let arcs = [arc(1, 1, 2), arc(3, 2, 1)];
+    let rows = [row(0, 380), row(1, 300), row(2, 250), row(3, 100)];
+    let veto = Pair::new(Cycle::new(&arcs[..]), Load::new(&rows[..]));
+    let mut turns = order(rt.alloc())?;
+    play(veto, &mut turns);
+    for turn in &turns {
+        tell(&rt, turn)?;
+    }
     Ok(())
 }
