@@ -1,0 +1,4 @@
+pub mod Searching
+pub mod Marking
+pub mod Reasoning
+pub mod SetLaws
