@@ -1,6 +1,6 @@
 // A session, and the calls that set what it holds.
 ghost use Rattle.std.specs.Prelude.{◌≡◌, []};
-ghost use Rattle.ledgers.specs.Ledger.{fresh, size as «size-call», clause as «clause-call», open_scope, close_scope};
+ghost use Rattle.ledgers.specs.Ledger.{Ledger, fresh, size as «size-call», clause as «clause-call», open_scope, close_scope};
 ghost use Rattle.session.specs.declared.table.Place.TheVariants.{BeforeFirst};
 ghost use Rattle.session.specs.Standing.{Stands, Keeps, done};
 
@@ -42,6 +42,13 @@ impl<V: Veto> Session<V> {
         ensures stands { Stands result.table fresh }
     {
         Session { veto, table: None }
+    }
+
+    // The number of atoms, or none where the session is unsized.
+    pub fn atoms(&self) -> Option<usize>
+        ensures { (l : Ledger) → Stands self.now.table l → result ≡ l.size }
+    {
+        self.table.as_ref().map(|table| table.book.atoms())
     }
 
     pub fn size(&mut self, atoms: usize) -> Result<(), Refusal>
