@@ -1,0 +1,5 @@
+pub mod Cutting
+pub mod Figures
+pub mod Magnitudes
+pub mod Moves
+pub mod Scanning

@@ -1,0 +1,12 @@
+pub mod Examples
+pub mod Backs
+pub mod Accepting
+pub mod Refusing
+pub mod Round
+pub mod Parts
+pub mod Lengths
+pub mod Wholes
+pub mod LawsStand
+pub mod Determined
+pub mod Earliness
+pub mod Causes

@@ -1,0 +1,10 @@
+pub mod Limits
+pub mod Kinds
+pub mod Faults
+pub mod Items
+pub mod Due
+pub mod Reading
+pub mod Refused
+pub mod Earliest
+pub mod Problems
+pub mod Laws

@@ -1,0 +1,14 @@
+// The laws of reading and writing, for the check to ask for: they quantify over every text and every problem.
+ghost use Rattle.nestformat.specs.Laws.{Accepts, ReadsProblems, Refuses, ReadsBack, WrittenAlike, WholeProblems, AcceptsLines, EarliestFirst, RowCauses};
+
+pub fn laws()
+    ensures accepts { Accepts }
+    ensures nothing_else { ReadsProblems }
+    ensures refuses { Refuses }
+    ensures reads_back { ReadsBack }
+    ensures written_alike { WrittenAlike }
+    ensures whole_problems { WholeProblems }
+    ensures accepts_lines { AcceptsLines }
+    ensures earliest_first { EarliestFirst }
+    ensures row_causes { RowCauses }
+{}
