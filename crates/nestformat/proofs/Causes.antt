@@ -1,15 +1,13 @@
 -- The cause of a refused row is the refusal of what it says. Assumes nothing.
-use Rattle.std.proofs.Common.{◌≡◌, ℕ, Bool, true, false, cond, ◌&&◌, List, ℤ, map, Some, None, Ok, Err, Option, sym, refl, ap, ◌∙◌, subst}
-use Rattle.std.specs.List.{AllByRecursion, list_all}
-use Rattle.std.specs.Fmt.{signed_decimal}
-use Rattle.std.proofs.lemmas.Bool.{both_ways, cond-true, and_from, and_parts}
+use Rattle.std.proofs.Common.{◌≡◌, ℕ, Bool, true, false, cond, ◌&&◌, List, ℤ, Some, None, Err, Option, sym, refl, ap, ◌∙◌, subst}
+use Rattle.std.specs.List.{list_all}
+use Rattle.std.proofs.lemmas.Bool.{cond-true, and_from, and_parts}
 use Rattle.refusals.specs.declared.Refusal.{Refusal}
-use Rattle.refusals.specs.declared.Refusal.TheVariants.{CountOutOfRange, BadByte, BadNumber, BadHeading, BadContents, BadBody, RowRefused, BadEnd}
+use Rattle.refusals.specs.declared.Refusal.TheVariants.{CountOutOfRange, BadByte, BadNumber, RowRefused}
 use Rattle.lexer.specs.Lines.{tokens}
 use Rattle.nestformat.specs.declared.faults.LineFault.{LineFault}
-use Rattle.nestformat.specs.Faults.{plain, caused}
 use Rattle.nestformat.specs.Kinds.{atoms_told}
-use Rattle.nestformat.specs.Items.{Item, row_line, item_line}
+use Rattle.nestformat.specs.Items.{row_line, item_line}
 use Rattle.nestformat.specs.Due.{Slot, heading_due, contents_due, body_due, map_due, row_due, end_due, State, due, says, as_written, same_line, numbers_said, number_at, kind_at, in_row, form, well_formed, refusal_below}
 use Rattle.nestformat.specs.Reading.{sort_refusal, contents_form, over_atoms, wrong, row_fault, accept}
 use Rattle.nestformat.specs.Earliest.{RowCause}
@@ -46,15 +44,15 @@ row_as_written x zs h w =
 cause_of : (x : Slot) (s : State) (ts : List (List ℕ)) → RowPlace x → RowCause x s ts (row_fault x s ts).cause
 cause_of x s ts h = record {
   told = λ zs e w.
-    let r = row_as_written x zs h w in
-    let back : numbers_said ts ≡ zs = ap numbers_said e ∙ r.0 in
-    let written : as_written x ts ≡ true = ap (as_written x) e ∙ r.1 in
-    let formed : well_formed x (numbers_said ts) ≡ true = ap (well_formed x) back ∙ w in
-    cond-true _ _ _ (and_from _ _ written formed) ∙ ap (refusal_below x s) back;
+      let r = row_as_written x zs h w in
+      let back : numbers_said ts ≡ zs = ap numbers_said e ∙ r.0 in
+      let written : as_written x ts ≡ true = ap (as_written x) e ∙ r.1 in
+      let formed : well_formed x (numbers_said ts) ≡ true = ap (well_formed x) back ∙ w in
+      cond-true _ _ _ (and_from _ _ written formed) ∙ ap (refusal_below x s) back;
   only = λ c e.
-    let p = cond_some (as_written x ts && well_formed x (numbers_said ts)) (refusal_below x s (numbers_said ts)) c e in
-    let q = and_parts (as_written x ts) (well_formed x (numbers_said ts)) p.0 in
-    (numbers_said ts, same_line_true ts (item_line (says x ts)) q.0 ∙ ap item_line (said_row x ts h), q.1, p.1);
+      let p = cond_some (as_written x ts && well_formed x (numbers_said ts)) (refusal_below x s (numbers_said ts)) c e in
+      let q = and_parts (as_written x ts) (well_formed x (numbers_said ts)) p.0 in
+      (numbers_said ts, same_line_true ts (item_line (says x ts)) q.0 ∙ ap item_line (said_row x ts h), q.1, p.1);
 }
 
 not_sort : (x : Slot) → sort_refusal x ≡ RowRefused → ⊥

@@ -1,17 +1,17 @@
 -- The refusal of a line is the earliest that applies. Assumes nothing.
 use Rattle.std.proofs.Common.{◌≡◌, ℕ, ◌≤◌, Bool, true, false, cond, not, ◌&&◌, ◌⊎◌, List, Ok, Err, Option, Result, sym, refl, ap, ◌∙◌, subst, inl, inr, ⊎_elim, arith}
-use Rattle.std.proofs.lemmas.Bool.{both_ways, cond-true, cond-false, not-true, not-false, cases_Bool}
+use Rattle.std.proofs.lemmas.Bool.{both_ways, cond-true, cond-false}
 use Rattle.refusals.specs.declared.Refusal.{Refusal}
-use Rattle.refusals.specs.declared.Refusal.TheVariants.{CountOutOfRange, BadByte, BadNumber, BadHeading, BadContents, BadBody, RowRefused, BadEnd}
+use Rattle.refusals.specs.declared.Refusal.TheVariants.{CountOutOfRange, BadByte, BadNumber, BadContents, BadBody, RowRefused}
 use Rattle.refusals.specs.Refusals.{number_of}
 use Rattle.lexer.specs.Lines.{tokens, lead, clean}
 use Rattle.lexer.specs.Numbers.{all_numbers}
 use Rattle.nestformat.specs.declared.faults.LineFault.{LineFault}
 use Rattle.nestformat.specs.Faults.{plain, caused}
 use Rattle.nestformat.specs.Kinds.{atoms_told}
-use Rattle.nestformat.specs.Items.{Item, item_line}
-use Rattle.nestformat.specs.Due.{Slot, heading_due, contents_due, body_due, map_due, row_due, end_due, State, due, fits, fits_at, says, as_written, number_at, kind_at}
-use Rattle.nestformat.specs.Reading.{begins_row, of_sort, sort_refusal, number_places, contents_form, over_atoms, wrong, judge, accept}
+use Rattle.nestformat.specs.Items.{Item}
+use Rattle.nestformat.specs.Due.{Slot, heading_due, contents_due, body_due, map_due, row_due, end_due, State, due, fits_at, says, as_written, number_at, kind_at}
+use Rattle.nestformat.specs.Reading.{begins_row, of_sort, sort_refusal, number_places, contents_form, over_atoms, wrong, accept}
 use Rattle.nestformat.specs.Earliest.{SaysRight, place_refusal, Applies, IsEarliest}
 use Rattle.nestformat.proofs.Accepting.{spelled_line}
 
@@ -37,15 +37,15 @@ judged s l e h =
     ⊎_elim
     (λ (a : (clean l ≡ false) × (plain BadByte ≡ e)). bad_byte a.0 a.1)
     (λ (a : (clean l ≡ true) × (cond (not (of_sort x (lead ts))) (Err (plain (sort_refusal x))) (cond (not (all_numbers (number_places x ts))) (Err (plain BadNumber)) (cond (as_written x ts && fits_at x s (says x ts)) (Ok (says x ts)) (Err (wrong x s ts)))) ≡ Err e)).
-      ⊎_elim
-      (λ (b : (of_sort x (lead ts) ≡ false) × (plain (sort_refusal x) ≡ e)). other_sort a.0 b.0 b.1)
-      (λ (b : (of_sort x (lead ts) ≡ true) × (cond (not (all_numbers (number_places x ts))) (Err (plain BadNumber)) (cond (as_written x ts && fits_at x s (says x ts)) (Ok (says x ts)) (Err (wrong x s ts))) ≡ Err e)).
-        ⊎_elim
-        (λ (c : (all_numbers (number_places x ts) ≡ false) × (plain BadNumber ≡ e)). bad_number a.0 b.0 c.0 c.1)
-        (λ (c : (all_numbers (number_places x ts) ≡ true) × (cond (as_written x ts && fits_at x s (says x ts)) (Ok (says x ts)) (Err (wrong x s ts)) ≡ Err e)).
-          wrong_line a.0 b.0 c.0 (err_last (as_written x ts && fits_at x s (says x ts)) (says x ts) (wrong x s ts) e c.1))
-        (err_here (all_numbers (number_places x ts)) (plain BadNumber) e (cond (as_written x ts && fits_at x s (says x ts)) (Ok (says x ts)) (Err (wrong x s ts))) b.1))
-      (err_here (of_sort x (lead ts)) (plain (sort_refusal x)) e (cond (not (all_numbers (number_places x ts))) (Err (plain BadNumber)) (cond (as_written x ts && fits_at x s (says x ts)) (Ok (says x ts)) (Err (wrong x s ts)))) a.1))
+    ⊎_elim
+    (λ (b : (of_sort x (lead ts) ≡ false) × (plain (sort_refusal x) ≡ e)). other_sort a.0 b.0 b.1)
+    (λ (b : (of_sort x (lead ts) ≡ true) × (cond (not (all_numbers (number_places x ts))) (Err (plain BadNumber)) (cond (as_written x ts && fits_at x s (says x ts)) (Ok (says x ts)) (Err (wrong x s ts))) ≡ Err e)).
+    ⊎_elim
+    (λ (c : (all_numbers (number_places x ts) ≡ false) × (plain BadNumber ≡ e)). bad_number a.0 b.0 c.0 c.1)
+    (λ (c : (all_numbers (number_places x ts) ≡ true) × (cond (as_written x ts && fits_at x s (says x ts)) (Ok (says x ts)) (Err (wrong x s ts)) ≡ Err e)).
+    wrong_line a.0 b.0 c.0 (err_last (as_written x ts && fits_at x s (says x ts)) (says x ts) (wrong x s ts) e c.1))
+    (err_here (all_numbers (number_places x ts)) (plain BadNumber) e (cond (as_written x ts && fits_at x s (says x ts)) (Ok (says x ts)) (Err (wrong x s ts))) b.1))
+    (err_here (of_sort x (lead ts)) (plain (sort_refusal x)) e (cond (not (all_numbers (number_places x ts))) (Err (plain BadNumber)) (cond (as_written x ts && fits_at x s (says x ts)) (Ok (says x ts)) (Err (wrong x s ts)))) a.1))
     (err_here (clean l) (plain BadByte) e (cond (not (of_sort x (lead ts))) (Err (plain (sort_refusal x))) (cond (not (all_numbers (number_places x ts))) (Err (plain BadNumber)) (cond (as_written x ts && fits_at x s (says x ts)) (Ok (says x ts)) (Err (wrong x s ts))))) h)
 
 -- by its place
@@ -112,10 +112,10 @@ by_place s l e h c numbers q =
     record {
       applies = at_place s l e.refusal q high (none_said s l e h c);
       first = λ r a. least (number_of e.refusal) s l r
-        (λ bad. absurd (both_ways _ bad c))
-        (λ sort bad. absurd (numbers sort bad))
-        (λ p. let same : e.refusal ≡ r = q ∙ sym p in let n : number_of e.refusal ≡ number_of r = ap number_of same in omega arith)
-        a;
+          (λ bad. absurd (both_ways _ bad c))
+          (λ sort bad. absurd (numbers sort bad))
+          (λ p. let same : e.refusal ≡ r = q ∙ sym p in let n : number_of e.refusal ≡ number_of r = ap number_of same in omega arith)
+          a;
     }
 
 earliest_of : (s : State) (l : List ℕ) (e : LineFault) → accept s l ≡ Err e → Judged s (due s.todo) l e → IsEarliest s l e.refusal

@@ -5,7 +5,6 @@ use Rattle.refusals.specs.declared.Refusal.TheVariants.{BadByte, BadNumber, BadH
 use Rattle.refusals.specs.Refusals.{number_of}
 use Rattle.lexer.specs.Lines.{tokens, lead, clean}
 use Rattle.lexer.specs.Numbers.{all_numbers}
-use Rattle.nestformat.specs.declared.faults.LineFault.{LineFault}
 use Rattle.nestformat.specs.Items.{Item, row_line, item_line}
 use Rattle.nestformat.specs.Due.{Slot, heading_due, contents_due, body_due, map_due, row_due, end_due, State, due, fits, well_formed, refusal_below}
 use Rattle.nestformat.specs.Reading.{begins_row, of_sort, number_places}

@@ -1,5 +1,6 @@
 // A session, and the calls that set what it holds.
-ghost use Rattle.std.specs.Prelude.{◌≡◌, []};
+ghost use Rattle.std.specs.Prelude.{◌≡◌, ◌≤◌, [], IfSome};
+ghost use Rattle.assignments.specs.Limits.{atom_limit};
 ghost use Rattle.ledgers.specs.Ledger.{Ledger, fresh, size as «size-call», clause as «clause-call», open_scope, close_scope};
 ghost use Rattle.session.specs.declared.table.Place.TheVariants.{BeforeFirst};
 ghost use Rattle.session.specs.Standing.{Stands, Keeps, done};
@@ -46,7 +47,8 @@ impl<V: Veto> Session<V> {
 
     // The number of atoms, or none where the session is unsized.
     pub fn atoms(&self) -> Option<usize>
-        ensures { (l : Ledger) → Stands self.now.table l → result ≡ l.size }
+        ensures size { (l : Ledger) → Stands self.now.table l → result ≡ l.size }
+        ensures few { IfSome result (λ n. n ≤ atom_limit) }
     {
         self.table.as_ref().map(|table| table.book.atoms())
     }

@@ -1,0 +1,5 @@
+pub mod Assigning
+pub mod Signs
+pub mod Leaving
+pub mod Giving
+pub mod Beginning

@@ -1,0 +1,47 @@
+// One line of a listing, and its text.
+ghost use Rattle.std.specs.Prelude.{Some, flat_map};
+ghost use Rattle.listing.specs.Lines.{said, text, word};
+
+use assignments::{ATOM_LIMIT, Literal};
+use std::fmt;
+use tables::Table;
+
+#[derive(Drop)]
+pub enum Line {
+    // the map's number, and the number of atoms
+    Head { map: u16, atoms: usize },
+    // an assignment, by its literal of each atom
+    Setting(Table<Literal, ATOM_LIMIT>),
+    // all are given, so many
+    End(usize),
+    // so many are given, and there are more
+    More(usize),
+}
+
+// As words of a line.
+#[derive(Clone, Copy)]
+struct Words<'a>(&'a [Literal]);
+
+impl fmt::Display for Words<'_> {
+    ghost output = { λ words. Some (flat_map word words.0.now) };
+
+    fn fmt<W: fmt::Write>(&self, f: &mut fmt::Formatter<W>) -> fmt::Result {
+        for literal in self.0 {
+            write!(f, " {literal}")?;
+        }
+        Ok(())
+    }
+}
+
+impl fmt::Display for Line {
+    ghost output = { λ line. Some (text (said line)) };
+
+    fn fmt<W: fmt::Write>(&self, f: &mut fmt::Formatter<W>) -> fmt::Result {
+        match self {
+            Line::Head { map, atoms } => write!(f, "map {map} atoms {atoms}"),
+            Line::Setting(literals) => write!(f, "v{} 0", Words(literals.as_slice())),
+            Line::End(count) => write!(f, "end {count}"),
+            Line::More(count) => write!(f, "more {count}"),
+        }
+    }
+}
