@@ -1,0 +1,10 @@
+pub mod KindLaws
+pub mod Wholes
+pub mod Entries
+pub mod Reaches
+pub mod Fits
+pub mod Holding
+pub mod Vetoes
+pub mod Deciding
+pub mod Told
+pub mod FileLines

@@ -1,0 +1,12 @@
+use Rattle.std.proofs.Common.{refl, ◌∙◌, rules}
+use Rattle.nestformat.specs.declared.kinds.BodyKind.TheVariants.{Outer}
+use Rattle.nestfile.specs.declared.Parts.{Parts}
+use Rattle.nestfile.proofs.Listing.{is_empty, empty_whole, bare_from}
+use Rattle.nestfile.proofs.Steps.{same_rows}
+use Rattle.nestfile.proofs.Problem.empty.Goals as goal
+
+pub invariant_of-result : goal.invariant_of-result
+invariant_of-result c =
+    let n = c.new-parts.result in
+    let p : Parts = record { map = n.map; contents = c.push.new.self; outer = n.outer; nest = n.nest; below = n.below; arcs = n.arcs; milliamperes = n.milliamperes; lines = n.lines } in
+    record { whole = empty_whole p (is_empty p c.new-parts.ensures.map (search rules) (c.new-parts.ensures.rows Outer)); bare = bare_from p (λ k l. same_rows n p refl refl refl refl refl refl k ∙ c.new-parts.ensures.rows k) }

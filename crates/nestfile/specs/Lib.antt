@@ -1,0 +1,9 @@
+pub mod Rows
+pub mod Bodies
+pub mod Problems
+pub mod Tokens
+pub mod Entries
+pub mod Judged
+pub mod Closed
+pub mod Drafts
+pub mod Read

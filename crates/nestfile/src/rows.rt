@@ -1,0 +1,56 @@
+// The numbers of a row.
+ghost use Rattle.std.specs.Prelude.{◌≡◌, ◌≤◌, true, length};
+ghost use Rattle.tables.specs.Items.{entries};
+ghost use Rattle.lexer.specs.Numbers.{all_numbers};
+ghost use Rattle.lexer.specs.Scans.{left, SameLine};
+ghost use Rattle.nestfile.specs.Closed.{row_number_limit, closed, Found, RowRead};
+
+use lexer::numbers::are_numbers;
+use lexer::reader::{Reader, Token};
+use nestformat::faults::LineFault;
+use refusals::Refusal;
+use tables::Table;
+
+// The most numbers that a row can have in a text that is short enough: each takes two bytes at least.
+pub(crate) const ROW_NUMBER_LIMIT: usize = 30_000;
+
+pub(crate) type RowNumbers = Table<i32, ROW_NUMBER_LIMIT>;
+
+// The numbers before the closing 0, which is the row's last token and its only 0.
+pub(crate) fn read_numbers(
+    reader: &mut Reader<'_>,
+    numbers: &mut RowNumbers,
+) -> Result<(), LineFault>
+    requires all { all_numbers (left reader.old) ≡ true }
+    requires few { length (left reader.old) ≤ row_number_limit }
+    ensures found { Found (closed (left reader.old)) (entries numbers.new) result }
+    ensures same { SameLine reader.old reader.new }
+{
+    let wrong = LineFault::plain(Refusal::RowRefused);
+    numbers.truncate(0);
+    loop {
+        let Token::Number { value, .. } = reader.next_token() else {
+            return Err(wrong);
+        };
+        if value == 0 {
+            break;
+        }
+        let _ = numbers.push(value);
+    }
+    let Token::LineEnd { .. } = reader.next_token() else {
+        return Err(wrong);
+    };
+    Ok(())
+}
+
+// The numbers of the row that the line has.
+pub(crate) fn read_row(reader: &mut Reader<'_>, numbers: &mut RowNumbers) -> Result<(), LineFault>
+    requires { length (left reader.old) ≤ row_number_limit }
+    ensures read { RowRead (left reader.old) (entries numbers.new) result }
+    ensures same { SameLine reader.old reader.new }
+{
+    if !are_numbers(reader.rest()) {
+        return Err(LineFault::plain(Refusal::BadNumber));
+    }
+    read_numbers(reader, numbers)
+}
