@@ -4,9 +4,16 @@
 use assignments::Literal;
 use clauses::book::ClauseBook;
 use clauses::stretch::Counts;
+use nestfile::Problem;
+use nestfile::reading::read;
 use refusals::Refusal;
+use session::session::Session;
 use std::fmt::Display;
 use std::io;
+use vetoes::mute::Mute;
+
+// A nest file without atoms.
+const SMALL: &[u8] = b"p nest 1 1\nt o 0 0 0\nb o 1\n";
 
 fn tell<D: Display + Drop>(
     rt: &HostRuntime,
@@ -93,6 +100,33 @@ fn cut_back(rt: &HostRuntime) -> anyhow::Result<()> {
     Ok(())
 }
 
+// Opens so many scopes, and answers with the first refusal.
+fn open_times(session: &mut Session<Mute>, times: usize) -> Result<(), Refusal> {
+    for _ in 0..times {
+        session.open()?;
+    }
+    Ok(())
+}
+
+fn scopes(rt: &HostRuntime) -> anyhow::Result<()> {
+    let mut session = Session::new(Mute);
+    session.size(1)?;
+    tell(rt, "16 scopes", open_times(&mut session, 16))?;
+    tell(rt, "one scope more", session.open())?;
+    Ok(())
+}
+
+// Reads a small file, filled up to so many bytes by blank lines.
+fn text(rt: &HostRuntime, bytes: usize) -> anyhow::Result<()> {
+    let mut text = Vec::new(rt.alloc());
+    text.extend_from_slice(SMALL)?;
+    text.resize(bytes, b'\n')?;
+    let mut problem = Problem::empty();
+    let answer = read(text.as_slice(), &mut problem).map_err(|fault| fault.refusal);
+    tell(rt, format_args!("text of {bytes} bytes"), answer)?;
+    Ok(())
+}
+
 fn main(rt: HostRuntime) -> anyhow::Result<()> {
     for atoms in [0, 200, 201] {
         tell_fresh(&rt, atoms)?;
@@ -101,5 +135,10 @@ fn main(rt: HostRuntime) -> anyhow::Result<()> {
     empty_clause(&rt)?;
     clause_table(&rt)?;
     literal_table(&rt)?;
-    cut_back(&rt)
+    cut_back(&rt)?;
+    scopes(&rt)?;
+    for bytes in [60_000, 60_001] {
+        text(&rt, bytes)?;
+    }
+    Ok(())
 }

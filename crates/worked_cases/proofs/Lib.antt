@@ -1,0 +1,5 @@
+pub mod Deciding
+pub mod Steps
+pub mod Clashes
+pub mod Arcs
+pub mod Stand
