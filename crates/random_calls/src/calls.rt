@@ -131,7 +131,7 @@ fn byte(random: &mut Random) -> u8 {
 #[derive(Drop)]
 pub struct Calls {
     pub heap: Global,
-    random: Random,
+    pub random: Random,
     pub mix: Mix,
     // so many atoms the session has now
     atoms: u8,

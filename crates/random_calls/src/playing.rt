@@ -1,6 +1,6 @@
 // A session and the model of it, which play the same calls: what comes back, and whether it is right in every byte.
 use crate::model::Model;
-use crate::rules::Rules;
+use crate::rules::Plain;
 use assignments::Literal;
 use runs::play::apply;
 use runs::turn::{Call, Done, Reply};
@@ -68,14 +68,14 @@ fn without(heap: Global, core: &[Literal], place: usize) -> Result<Vec<Literal>,
 }
 
 #[derive(Drop)]
-pub struct Trial<'a, V: Veto> {
+pub struct Trial<'a, V: Veto, P> {
     heap: Global,
     session: Session<V>,
-    model: Model<'a>,
+    model: Model<'a, P>,
 }
 
-impl<'a, V: Veto> Trial<'a, V> {
-    pub fn new(heap: Global, veto: V, rules: &'a Rules) -> Trial<'a, V> {
+impl<'a, V: Veto, P: Plain> Trial<'a, V, P> {
+    pub fn new(heap: Global, veto: V, rules: &'a P) -> Trial<'a, V, P> {
         Trial {
             heap,
             session: Session::new(veto),

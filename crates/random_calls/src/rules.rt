@@ -9,6 +9,13 @@ const ATOMS: u8 = 200;
 
 const SIGNALS: u8 = 64;
 
+// What something rules out, at any assignment, and the highest atom that this depends on.
+pub trait Plain {
+    fn reach(&self) -> u8;
+
+    fn rule_out(&self, heap: Global, assignment: &[u8]) -> Result<bool, AllocError>;
+}
+
 // A kind of veto that has no part here has no rows: then it rules nothing out.
 #[derive(Drop)]
 pub struct Rules {
@@ -97,8 +104,10 @@ impl Rules {
             lines: Vec::new(heap),
         }
     }
+}
 
-    pub fn rule_out(&self, heap: Global, assignment: &[u8]) -> Result<bool, AllocError> {
+impl Plain for Rules {
+    fn rule_out(&self, heap: Global, assignment: &[u8]) -> Result<bool, AllocError> {
         if are_too_much(self.currents.as_slice(), assignment)
             || are_too_many(self.lines.as_slice(), assignment)
         {
@@ -108,7 +117,7 @@ impl Rules {
     }
 
     // The highest atom that counts. The first row of a load is its limit, and its atom does not count.
-    pub fn reach(&self) -> u8 {
+    fn reach(&self) -> u8 {
         let arcs = self.arcs.iter().filter(|arc| counts(arc));
         let currents = self.currents.iter().skip(1).map(|row| row.atom);
         let lines = self.lines.iter().skip(1).map(|row| row.atom);

@@ -104,8 +104,12 @@ impl Tally {
             Err(refusal) => count(&mut self.refused, usize::from(refusal.number())),
         }
         if !outcome.right {
-            self.mismatches = self.mismatches.saturating_add(1);
+            self.add_mismatch();
         }
+    }
+
+    pub fn add_mismatch(&mut self) {
+        self.mismatches = self.mismatches.saturating_add(1);
     }
 
     pub fn mismatches(&self) -> u32 {

@@ -1,15 +1,13 @@
 // Prints the settings that a nest file admits, line by line: of the file named as argument, or else of standard input.
 #![tactic(auto)]
 
-mod refused;
-
+use answers::FaultLine;
 use finder::lines::listing_of;
 use listing::LISTING_LIMIT;
 use nestfile::Problem;
 use nestfile::reading::read;
-use refused::Refused;
-use std::process::ExitCode;
 use std::io::Read;
+use std::process::ExitCode;
 use std::{env, fs, io};
 
 // The head, the settings, and the last line.
@@ -40,7 +38,7 @@ fn main(rt: HostRuntime) -> io::Result<ExitCode> {
     let text = text_of(&rt)?;
     let mut problem = Problem::empty();
     if let Err(fault) = read(text.as_slice(), &mut problem) {
-        println!(rt; "{}", Refused(fault))?;
+        println!(rt; "{}", FaultLine(fault))?;
         return Ok(ExitCode::FAILURE);
     }
     list(&rt, &problem)?;
