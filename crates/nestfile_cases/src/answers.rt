@@ -1,5 +1,5 @@
 // What the library answers to a text: what it writes of the problem, or the line of its fault.
-use crate::told::Told;
+use answers::FaultLine;
 use nestfile::Problem;
 use nestfile::reading::read;
 use nestwrite::write;
@@ -47,7 +47,7 @@ impl Reader {
         match read(text, &mut self.problem) {
             Ok(()) => Ok(self.written() == answer),
             Err(fault) => {
-                let line = format!(in self.heap; "{}", Told(fault))?;
+                let line = format!(in self.heap; "{}\n", FaultLine(fault))?;
                 Ok(line.as_bytes() == answer && self.written() == EMPTY)
             }
         }

@@ -4,7 +4,6 @@
 
 mod answers;
 mod pieces;
-mod told;
 
 use crate::answers::Reader;
 use crate::pieces::joined;
