@@ -2,10 +2,10 @@
 // answered otherwise, and then ends with an error.
 #![tactic(auto)]
 
-mod answers;
+mod answering;
 mod pieces;
 
-use crate::answers::Reader;
+use crate::answering::Reader;
 use crate::pieces::joined;
 use anyhow::anyhow;
 use std::{env, fs};
