@@ -6,6 +6,7 @@ use Rattle.std.specs.Str.{bytes_eq}
 use Rattle.std.proofs.lemmas.Bool.{both_ways, cases_Bool, cond-true, cond-false, and_parts, eq-eqb, eqb-true, ne_eqb, lt-ltb}
 use Rattle.std.proofs.lemmas.Bool.Decides.{same_from_decides, nat_tests}
 use Rattle.std.proofs.lemmas.Slice.Eq.{bytes_eq-Decides}
+use Rattle.refusals.specs.declared.Fault.{Fault}
 use Rattle.refusals.specs.declared.Refusal.{Refusal}
 use Rattle.refusals.specs.declared.Refusal.TheVariants.{BadNumber, RowRefused}
 use Rattle.lexer.specs.declared.reader.Token.{Token}
@@ -17,12 +18,13 @@ use Rattle.std.proofs.lemmas.List.{append-nil}
 use Rattle.nestfile.specs.Tokens.{is_end}
 use Rattle.nestfile.proofs.Places.{end_told}
 use Rattle.lexer.proofs.Moves.{same_line_trans}
-use Rattle.nestformat.specs.Faults.{plain}
+use Rattle.nestformat.specs.Faults.{plain, told_at}
 use Rattle.lexer.proofs.Figures.{Small, written_back, reads_signed}
 use Rattle.nestformat.specs.declared.faults.LineFault.{LineFault}
 use Rattle.nestformat.specs.declared.kinds.Contents.{Contents}
 use Rattle.nestformat.specs.Items.{row_line}
 use Rattle.nestformat.specs.Due.{map_due, row_due, State, in_row, same_line, numbers_said, form, refusal_below}
+use Rattle.nestformat.specs.Reading.{fault_at}
 use Rattle.nestfile.specs.Rows.{caused}
 use Rattle.nestfile.specs.Bodies.{refusal_at}
 use Rattle.nestfile.specs.Closed.{row_number_limit, with_front, only_end, closed, RowRead, heard_row}
@@ -238,14 +240,14 @@ pub row_heard : (e : Contents) (s : State) (ts : List (List ℕ)) (zs ws : List 
 row_heard e s ts zs ws cs r h c w k t = row_closed e s ts h zs c ∙ ap (heard_row zs) (sym (t ∙ ap₂ (λ x y. refusal_at (row_due e) s.contents x y) k w))
 
 -- a row that could not be read
-pub map_unread : (e : Contents) (s : State) (ts : List (List ℕ)) (zs : List ℤ) (f : LineFault) → RowRead {T = Unit {0}} ts zs (Err f) → judged (map_due e) s ts ≡ Err f
-map_unread e s ts zs f h = ⊎_elim
-    (λ (w : (all_numbers ts ≡ false) × (f ≡ plain BadNumber)). cond-true _ _ _ (ap not w.0) ∙ ap Err (sym w.1))
-    (λ (w : (all_numbers ts ≡ true) × (closed ts ≡ None) × (f ≡ plain RowRefused)). map_open e s ts w.0 w.1 ∙ ap Err (sym w.2))
+pub map_unread : (e : Contents) (s : State) (n b : ℕ) (ts : List (List ℕ)) (zs : List ℤ) (g : Fault) → b ≡ s.letter → RowRead {T = Unit {0}} ts zs n b (Err g) → (f : LineFault) × (judged (map_due e) s ts ≡ Err f) × (g ≡ fault_at s n f)
+map_unread e s n b ts zs g k h = ⊎_elim
+    (λ (w : (all_numbers ts ≡ false) × (g ≡ told_at (plain BadNumber) n b)). (plain BadNumber, cond-true _ _ _ (ap not w.0), w.1 ∙ ap (told_at (plain BadNumber) n) k))
+    (λ (w : (all_numbers ts ≡ true) × (closed ts ≡ None) × (g ≡ told_at (plain RowRefused) n b)). (plain RowRefused, map_open e s ts w.0 w.1, w.2 ∙ ap (told_at (plain RowRefused) n) k))
     h
 
-pub row_unread : (e : Contents) (s : State) (ts : List (List ℕ)) (zs : List ℤ) (f : LineFault) → RowRead {T = Unit {0}} ts zs (Err f) → judged (row_due e) s ts ≡ Err f
-row_unread e s ts zs f h = ⊎_elim
-    (λ (w : (all_numbers ts ≡ false) × (f ≡ plain BadNumber)). cond-true _ _ _ (ap not w.0) ∙ ap Err (sym w.1))
-    (λ (w : (all_numbers ts ≡ true) × (closed ts ≡ None) × (f ≡ plain RowRefused)). row_open e s ts w.0 w.1 ∙ ap Err (sym w.2))
+pub row_unread : (e : Contents) (s : State) (n b : ℕ) (ts : List (List ℕ)) (zs : List ℤ) (g : Fault) → b ≡ s.letter → RowRead {T = Unit {0}} ts zs n b (Err g) → (f : LineFault) × (judged (row_due e) s ts ≡ Err f) × (g ≡ fault_at s n f)
+row_unread e s n b ts zs g k h = ⊎_elim
+    (λ (w : (all_numbers ts ≡ false) × (g ≡ told_at (plain BadNumber) n b)). (plain BadNumber, cond-true _ _ _ (ap not w.0), w.1 ∙ ap (told_at (plain BadNumber) n) k))
+    (λ (w : (all_numbers ts ≡ true) × (closed ts ≡ None) × (g ≡ told_at (plain RowRefused) n b)). (plain RowRefused, row_open e s ts w.0 w.1, w.2 ∙ ap (told_at (plain RowRefused) n) k))
     h

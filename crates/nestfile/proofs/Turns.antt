@@ -13,7 +13,7 @@ use Rattle.nestformat.specs.Reading.{judge, accept, skipped, fault_at, before, f
 use Rattle.nestformat.proofs.Accepting.{at_the_end}
 use Rattle.nestformat.proofs.Refusing.{ahead, ahead_err, unfinished}
 use Rattle.nestfile.specs.declared.drafts.Draft.{Draft}
-use Rattle.nestfile.specs.Drafts.{state_of, items_in, Sound, Taken, LineTaken, Answered}
+use Rattle.nestfile.specs.Drafts.{state_of, items_in, Sound, LineTaken, Answered}
 
 -- the lines from the n-th on and what is due answer what the whole does
 pub record Turn (s0 : State) (n0 : ℕ) (ls0 : List (List ℕ)) (i0 : List Item) (s : State) (n : ℕ) (ls : List (List ℕ)) (its : List Item) : Type 0 where
@@ -69,27 +69,17 @@ judged_clean s l h = ap (λ b. judge (due s.todo) s b (tokens l)) h
 pub judged_bad : (s : State) (l : List ℕ) → clean l ≡ false → accept s l ≡ Err (plain BadByte)
 judged_bad s l h = ap (λ b. judge (due s.todo) s b (tokens l)) h
 
-pub taken_ok : {T : Type 0} (q : Result Item LineFault) (x : T) (old new : Draft) → Taken q (Ok x) old new → (it : Item) × (q ≡ Ok it) × (state_of new ≡ advance (state_of old) it) × (items_in new ≡ items_in old ++ it ∷ []) × Sound new
-taken_ok (Ok it) x old new h = (it, refl, h.0, h.1, h.2)
-taken_ok (Err r) x old new h = absurd h
-
-pub taken_err : (T : Type 0) (q : Result Item LineFault) (e : LineFault) (old new : Draft) → Taken q {T = T} (Err e) old new → q ≡ Err e
-taken_err T (Ok it) e old new h = absurd h
-taken_err T (Err r) e old new h = ap Err (sym h)
-
 -- one line, by its bytes and by what the draft made of it
 
 pub bad_line : (T : Type 0) (l : List ℕ) (n : ℕ) (g : Fault) (old new : Draft) → clean l ≡ false → g ≡ fault_at (state_of old) n (plain BadByte) → LineTaken (accept (state_of old) l) n {T = T} (Err g) old new
 bad_line T l n g old new h e = subst (λ q. LineTaken q n {T = T} (Err g) old new) (sym (judged_bad (state_of old) l h)) e
 
-pub taken_line : {T : Type 0} (x : T) (l : List ℕ) (n : ℕ) (old new : Draft) → clean l ≡ true → Taken (judge (due (state_of old).todo) (state_of old) true (tokens l)) (Ok x) old new → LineTaken (accept (state_of old) l) n (Ok x) old new
-taken_line x l n old new h t =
-    let k = taken_ok (judge (due (state_of old).todo) (state_of old) true (tokens l)) x old new t in
-    subst (λ q. LineTaken q n (Ok x) old new) (sym (judged_clean (state_of old) l h ∙ k.1)) (k.2, k.3, k.4)
+pub clean_line : {T : Type 0} (r : Result T Fault) (l : List ℕ) (n : ℕ) (old new : Draft) → clean l ≡ true → LineTaken (judge (due (state_of old).todo) (state_of old) true (tokens l)) n r old new → LineTaken (accept (state_of old) l) n r old new
+clean_line r l n old new h t = subst (λ q. LineTaken q n r old new) (sym (judged_clean (state_of old) l h)) t
 
-pub refused_line : (T U : Type 0) (l : List ℕ) (n : ℕ) (f : LineFault) (g : Fault) (old new : Draft) → clean l ≡ true → Taken (judge (due (state_of old).todo) (state_of old) true (tokens l)) {T = T} (Err f) old new → g ≡ fault_at (state_of old) n f → LineTaken (accept (state_of old) l) n {T = U} (Err g) old new
-refused_line T U l n f g old new h t e =
-    subst (λ q. LineTaken q n {T = U} (Err g) old new) (sym (judged_clean (state_of old) l h ∙ taken_err T (judge (due (state_of old).todo) (state_of old) true (tokens l)) f old new t)) e
+-- the same answer, by another name of the judgement and the line
+pub on_line : {T : Type 0} (r : Result T Fault) (q p : Result Item LineFault) (n m : ℕ) (old new : Draft) → p ≡ q → n ≡ m → LineTaken q n r old new → LineTaken p m r old new
+on_line r q p n m old new e f h = subst (λ x. LineTaken x m r old new) (sym e) (subst (λ k. LineTaken q k r old new) f h)
 
 -- what a line's answer says
 pub line_ok : {T : Type 0} (q : Result Item LineFault) (n : ℕ) (x : T) (old new : Draft) → LineTaken q n (Ok x) old new → (it : Item) × (q ≡ Ok it) × (state_of new ≡ advance (state_of old) it) × (items_in new ≡ items_in old ++ it ∷ []) × Sound new

@@ -1,10 +1,11 @@
 -- The numbers of a row before its closing 0. Assumes nothing.
 use Rattle.std.specs.Prelude.{◌≡◌, ℕ, true, false, ◌⊎◌, cond, List, [], ◌∷◌, ◌++◌, ℤ, Ok, Err, Some, None, Option, Result, ◌==◌, unsigned_abs}
+use Rattle.refusals.specs.declared.Fault.{Fault}
 use Rattle.refusals.specs.declared.Refusal.{Refusal}
 use Rattle.refusals.specs.declared.Refusal.TheVariants.{BadNumber, RowRefused}
 use Rattle.lexer.specs.Numbers.{reads, all_numbers}
 use Rattle.nestformat.specs.declared.faults.LineFault.{LineFault}
-use Rattle.nestformat.specs.Faults.{plain}
+use Rattle.nestformat.specs.Faults.{plain, told_at}
 use Rattle.nestformat.specs.Items.{Item, row_line}
 
 -- the most numbers that a row can have in a text that is short enough
@@ -25,17 +26,17 @@ abbrev pub closed : List (List ℕ) → Option (List ℤ)
 closed [] = None
 closed (t ∷ ts) = cond (unsigned_abs (reads t) == 0) (only_end ts) (with_front (reads t ∷ []) (closed ts))
 
--- the numbers were found, or they are not closed
-abbrev pub Found : {T : Type 0} → Option (List ℤ) → List ℤ → Result T LineFault → Type 0
-Found o zs (Ok x) = o ≡ Some zs
-Found o zs (Err f) = (o ≡ None) × (f ≡ plain RowRefused)
+-- on the n-th line, in the body with letter b: the numbers were found, or they are not closed
+abbrev pub Found : {T : Type 0} → Option (List ℤ) → List ℤ → ℕ → ℕ → Result T Fault → Type 0
+Found o zs n b (Ok x) = o ≡ Some zs
+Found o zs n b (Err g) = (o ≡ None) × (g ≡ told_at (plain RowRefused) n b)
 
 -- what became of a row of numbers: it is right, or refused with a cause or none
 abbrev pub heard_row : List ℤ → Option (Option Refusal) → Result Item LineFault
 heard_row zs None = Ok (row_line zs)
 heard_row zs (Some c) = Err (record { refusal = RowRefused; cause = c })
 
--- the row was read, or some token is no number, or its numbers are not closed
-abbrev pub RowRead : {T : Type 0} → List (List ℕ) → List ℤ → Result T LineFault → Type 0
-RowRead ts zs (Ok x) = (all_numbers ts ≡ true) × (closed ts ≡ Some zs)
-RowRead ts zs (Err f) = ((all_numbers ts ≡ false) × (f ≡ plain BadNumber)) ⊎ ((all_numbers ts ≡ true) × (closed ts ≡ None) × (f ≡ plain RowRefused))
+-- the same of a whole row: it was read, or some token is no number, or its numbers are not closed
+abbrev pub RowRead : {T : Type 0} → List (List ℕ) → List ℤ → ℕ → ℕ → Result T Fault → Type 0
+RowRead ts zs n b (Ok x) = (all_numbers ts ≡ true) × (closed ts ≡ Some zs)
+RowRead ts zs n b (Err g) = ((all_numbers ts ≡ false) × (g ≡ told_at (plain BadNumber) n b)) ⊎ ((all_numbers ts ≡ true) × (closed ts ≡ None) × (g ≡ told_at (plain RowRefused) n b))

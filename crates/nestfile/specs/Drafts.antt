@@ -125,14 +125,7 @@ pub record Sound (d : Draft) : Type 0 where
   pub phase : PhaseSound d.parts d.opened d.phase
   pub bare : Bare d.parts d.phase
 
--- a line was judged, and answered: the item is taken, or its fault told
-abbrev pub Taken : Result Item LineFault → {T : Type 0} → Result T LineFault → Draft → Draft → Type 0
-Taken (Ok it) (Ok x) old new = (state_of new ≡ advance (state_of old) it) × (items_in new ≡ items_in old ++ it ∷ []) × Sound new
-Taken (Ok it) (Err e) old new = ⊥
-Taken (Err f) (Ok x) old new = ⊥
-Taken (Err f) (Err e) old new = e ≡ f
-
--- the same of the n-th line, whose fault is told with its place
+-- the n-th line was judged, and answered: the item is taken, or the fault is told with its place
 abbrev pub LineTaken : Result Item LineFault → ℕ → {T : Type 0} → Result T Fault → Draft → Draft → Type 0
 LineTaken (Ok it) n (Ok x) old new = (state_of new ≡ advance (state_of old) it) × (items_in new ≡ items_in old ++ it ∷ []) × Sound new
 LineTaken (Ok it) n (Err g) old new = ⊥

@@ -1,7 +1,8 @@
 // A line of the contents.
 ghost use Rattle.std.specs.Prelude.{◌≡◌, drop};
-ghost use Rattle.lexer.specs.Scans.{seen, first, left, SameLine};
+ghost use Rattle.lexer.specs.Scans.{seen, first, left, line_number, SameLine};
 ghost use Rattle.nestformat.specs.Due.{listed, in_order};
+ghost use Rattle.nestfile.specs.Tokens.{placed};
 ghost use Rattle.nestfile.specs.Entries.{contents_fault_told, contents_told, right_or_fault};
 
 use crate::ranges::{entry_within, has_too_many_atoms};
@@ -9,7 +10,7 @@ use crate::tokens::{ends_line, is_no_number, kind_of, word_is};
 use lexer::reader::{Reader, Token};
 use nestformat::faults::LineFault;
 use nestformat::kinds::{BodyKind, Contents};
-use refusals::Refusal;
+use refusals::{Fault, Refusal};
 
 // Whether the contents name a body of this kind.
 fn is_listed(contents: &[Contents], kind: BodyKind) -> bool
@@ -105,16 +106,18 @@ fn entry_of(
 // The entry that the line has, after others.
 pub(crate) fn read_entry(
     reader: &mut Reader<'_>,
+    body: char,
     before: &[Contents],
-) -> Result<Contents, LineFault>
-    ensures told { result ≡ contents_told (first (left reader.old)) (first (drop 1 (left reader.old))) (first (drop 1 (drop 1 (left reader.old)))) (first (drop 1 (drop 1 (drop 1 (left reader.old))))) (first (drop 1 (drop 1 (drop 1 (drop 1 (left reader.old)))))) (first (drop 1 (drop 1 (drop 1 (drop 1 (drop 1 (left reader.old))))))) before.now }
+) -> Result<Contents, Fault>
+    ensures told { result ≡ placed (line_number reader.old) body (contents_told (first (left reader.old)) (first (drop 1 (left reader.old))) (first (drop 1 (drop 1 (left reader.old)))) (first (drop 1 (drop 1 (drop 1 (left reader.old))))) (first (drop 1 (drop 1 (drop 1 (drop 1 (left reader.old)))))) (first (drop 1 (drop 1 (drop 1 (drop 1 (drop 1 (left reader.old))))))) before.now) }
     ensures same { SameLine reader.old reader.new }
 {
+    let line = reader.line();
     let first = reader.next_token();
     let kind = reader.next_token();
     let size = reader.next_token();
     let own = reader.next_token();
     let rows = reader.next_token();
     let last = reader.next_token();
-    entry_of(first, kind, size, own, rows, last, before)
+    entry_of(first, kind, size, own, rows, last, before).map_err(|fault| fault.at(line, body))
 }

@@ -1,14 +1,14 @@
 // The heading.
 ghost use Rattle.std.specs.Prelude.{◌≡◌, drop};
-ghost use Rattle.lexer.specs.Scans.{seen, first, left, SameLine};
-ghost use Rattle.nestfile.specs.Tokens.{heading_told};
+ghost use Rattle.lexer.specs.Scans.{seen, first, left, line_number, SameLine};
+ghost use Rattle.nestfile.specs.Tokens.{heading_told, placed};
 
 use crate::tokens::{ends_line, is_no_number, number_within, word_is};
 use lexer::reader::{Reader, Token};
 use nestformat::faults::LineFault;
 use nestformat::kinds::Heading;
 use nestformat::{BODY_LIMIT, MAP_LIMIT};
-use refusals::Refusal;
+use refusals::{Fault, Refusal};
 
 fn heading_of(
     first: Token<'_>,
@@ -39,14 +39,15 @@ fn heading_of(
 }
 
 // The heading that the line has.
-pub(crate) fn read_heading(reader: &mut Reader<'_>) -> Result<Heading, LineFault>
-    ensures told { result ≡ heading_told (first (left reader.old)) (first (drop 1 (left reader.old))) (first (drop 1 (drop 1 (left reader.old)))) (first (drop 1 (drop 1 (drop 1 (left reader.old))))) (first (drop 1 (drop 1 (drop 1 (drop 1 (left reader.old)))))) }
+pub(crate) fn read_heading(reader: &mut Reader<'_>, body: char) -> Result<Heading, Fault>
+    ensures told { result ≡ placed (line_number reader.old) body (heading_told (first (left reader.old)) (first (drop 1 (left reader.old))) (first (drop 1 (drop 1 (left reader.old)))) (first (drop 1 (drop 1 (drop 1 (left reader.old))))) (first (drop 1 (drop 1 (drop 1 (drop 1 (left reader.old))))))) }
     ensures same { SameLine reader.old reader.new }
 {
+    let line = reader.line();
     let first = reader.next_token();
     let second = reader.next_token();
     let map = reader.next_token();
     let bodies = reader.next_token();
     let last = reader.next_token();
-    heading_of(first, second, map, bodies, last)
+    heading_of(first, second, map, bodies, last).map_err(|fault| fault.at(line, body))
 }

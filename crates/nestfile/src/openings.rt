@@ -1,7 +1,9 @@
 // The line that opens a body.
 ghost use Rattle.std.specs.Prelude.{◌≡◌, drop};
+ghost use Rattle.std.specs.Option.{option_map};
 ghost use Rattle.std.specs.Result.{result_err};
-ghost use Rattle.lexer.specs.Scans.{seen, first, left, SameLine};
+ghost use Rattle.lexer.specs.Scans.{seen, first, left, line_number, SameLine};
+ghost use Rattle.nestformat.specs.Faults.{told_at};
 ghost use Rattle.nestfile.specs.Tokens.{opening_fault};
 
 use crate::tokens::{ends_line, is_no_number, kind_of, number_within, word_is};
@@ -9,7 +11,7 @@ use lexer::reader::{Reader, Token};
 use nestformat::MAP_LIMIT;
 use nestformat::faults::LineFault;
 use nestformat::kinds::BodyKind;
-use refusals::Refusal;
+use refusals::{Fault, Refusal};
 
 // Whether the tokens open the body of this kind, under this map.
 fn check_opening(
@@ -44,15 +46,17 @@ fn check_opening(
 // Whether the line opens the body of this kind, under this map.
 pub(crate) fn read_opening(
     reader: &mut Reader<'_>,
+    body: char,
     kind: BodyKind,
     map: u16,
-) -> Result<(), LineFault>
-    ensures told { result_err result ≡ opening_fault (first (left reader.old)) (first (drop 1 (left reader.old))) (first (drop 1 (drop 1 (left reader.old)))) (first (drop 1 (drop 1 (drop 1 (left reader.old))))) kind map }
+) -> Result<(), Fault>
+    ensures told { result_err result ≡ option_map (λ f. told_at f (line_number reader.old) body) (opening_fault (first (left reader.old)) (first (drop 1 (left reader.old))) (first (drop 1 (drop 1 (left reader.old)))) (first (drop 1 (drop 1 (drop 1 (left reader.old))))) kind map) }
     ensures same { SameLine reader.old reader.new }
 {
+    let line = reader.line();
     let first = reader.next_token();
     let second = reader.next_token();
     let third = reader.next_token();
     let last = reader.next_token();
-    check_opening(first, second, third, last, kind, map)
+    check_opening(first, second, third, last, kind, map).map_err(|fault| fault.at(line, body))
 }

@@ -24,15 +24,10 @@ fn read_line(reader: &mut Reader<'_>, draft: &mut Draft) -> Result<(), Fault>
     ensures taken { LineTaken (accept (state_of draft.old) (current reader.old)) (line_number reader.old) result draft.old draft.new }
     ensures same { SameLine reader.old reader.new }
 {
-    let line = reader.line();
-    let body = draft.letter();
     if !is_clean(reader.rest()) {
-        return Err(LineFault::plain(Refusal::BadByte).at(line, body));
+        return Err(LineFault::plain(Refusal::BadByte).at(reader.line(), draft.letter()));
     }
-    if let Err(fault) = draft.take(reader) {
-        return Err(fault.at(line, body));
-    }
-    Ok(())
+    draft.take(reader)
 }
 
 // The lines from the reader's on, each taken by the draft, or the first fault.

@@ -2,13 +2,13 @@
 ghost use Rattle.std.specs.Prelude.{◌≡◌, ◌≤◌, true, length};
 ghost use Rattle.tables.specs.Items.{entries};
 ghost use Rattle.lexer.specs.Numbers.{all_numbers};
-ghost use Rattle.lexer.specs.Scans.{left, SameLine};
+ghost use Rattle.lexer.specs.Scans.{left, line_number, SameLine};
 ghost use Rattle.nestfile.specs.Closed.{row_number_limit, closed, Found, RowRead};
 
 use lexer::numbers::are_numbers;
 use lexer::reader::{Reader, Token};
 use nestformat::faults::LineFault;
-use refusals::Refusal;
+use refusals::{Fault, Refusal};
 use tables::Table;
 
 // The most numbers that a row can have in a text that is short enough: each takes two bytes at least.
@@ -19,18 +19,19 @@ pub(crate) type RowNumbers = Table<i32, ROW_NUMBER_LIMIT>;
 // The numbers before the closing 0, which is the row's last token and its only 0.
 pub(crate) fn read_numbers(
     reader: &mut Reader<'_>,
+    body: char,
     numbers: &mut RowNumbers,
-) -> Result<(), LineFault>
+) -> Result<(), Fault>
     requires all { all_numbers (left reader.old) ≡ true }
     requires few { length (left reader.old) ≤ row_number_limit }
-    ensures found { Found (closed (left reader.old)) (entries numbers.new) result }
+    ensures found { Found (closed (left reader.old)) (entries numbers.new) (line_number reader.old) body result }
     ensures same { SameLine reader.old reader.new }
 {
-    let wrong = LineFault::plain(Refusal::RowRefused);
+    let line = reader.line();
     numbers.truncate(0);
     loop {
         let Token::Number { value, .. } = reader.next_token() else {
-            return Err(wrong);
+            return Err(LineFault::plain(Refusal::RowRefused).at(line, body));
         };
         if value == 0 {
             break;
@@ -38,19 +39,23 @@ pub(crate) fn read_numbers(
         let _ = numbers.push(value);
     }
     let Token::LineEnd { .. } = reader.next_token() else {
-        return Err(wrong);
+        return Err(LineFault::plain(Refusal::RowRefused).at(line, body));
     };
     Ok(())
 }
 
 // The numbers of the row that the line has.
-pub(crate) fn read_row(reader: &mut Reader<'_>, numbers: &mut RowNumbers) -> Result<(), LineFault>
+pub(crate) fn read_row(
+    reader: &mut Reader<'_>,
+    body: char,
+    numbers: &mut RowNumbers,
+) -> Result<(), Fault>
     requires { length (left reader.old) ≤ row_number_limit }
-    ensures read { RowRead (left reader.old) (entries numbers.new) result }
+    ensures read { RowRead (left reader.old) (entries numbers.new) (line_number reader.old) body result }
     ensures same { SameLine reader.old reader.new }
 {
     if !are_numbers(reader.rest()) {
-        return Err(LineFault::plain(Refusal::BadNumber));
+        return Err(LineFault::plain(Refusal::BadNumber).at(reader.line(), body));
     }
-    read_numbers(reader, numbers)
+    read_numbers(reader, body, numbers)
 }

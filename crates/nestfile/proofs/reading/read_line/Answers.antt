@@ -1,11 +1,11 @@
-use Rattle.std.proofs.Common.{◌≡◌, true, false, refl, sym, ap, ◌∙◌, rules}
+use Rattle.std.proofs.Common.{◌≡◌, true, false, sym, ap, ◌∙◌, rules}
 use Rattle.refusals.specs.declared.Refusal.TheVariants.{BadByte}
 use Rattle.lexer.specs.Lines.{clean}
 use Rattle.lexer.specs.Scans.{current, line_number}
 use Rattle.nestformat.specs.Faults.{plain}
 use Rattle.nestfile.specs.Drafts.{state_of}
 use Rattle.nestfile.proofs.Counting.{few_left}
-use Rattle.nestfile.proofs.Turns.{bad_line, taken_line, refused_line, told_same}
+use Rattle.nestfile.proofs.Turns.{bad_line, clean_line, told_same}
 use Rattle.nestfile.proofs.reading.read_line.Goals as goal
 
 pub returns-then-not-is_clean-clause-taken : goal.returns-then-not-is_clean-clause-taken
@@ -15,19 +15,10 @@ returns-then-not-is_clean-clause-taken c =
     let no : c.is_clean.result ≡ false = search rules in
     let bad : clean (current r) ≡ false = ap clean (sym c.rest.ensures) ∙ sym c.is_clean.ensures ∙ no in
     bad_line (Unit {0}) (current r) (line_number r) c.at.result old old bad
-    (told_same c.at.result c.plain.result (plain BadByte) c.line-line.result (line_number r) c.letter-body.result (state_of old).letter c.at.ensures c.plain.ensures c.line-line.ensures c.letter-body.ensures)
+    (told_same c.at.result c.plain.result (plain BadByte) c.line.result (line_number r) c.letter.result (state_of old).letter c.at.ensures c.plain.ensures c.line.ensures c.letter.ensures)
 
 pub take-requires-clause-few : goal.take-requires-clause-few
 take-requires-clause-few c = few_left c.args.reader.now c.requires.short
-
-pub returns-in-Err-clause-taken : goal.returns-in-Err-clause-taken
-returns-in-Err-clause-taken c =
-    let r = c.args.reader.now in
-    let old = c.args.draft.now in
-    let yes : c.is_clean.result ≡ true = search rules in
-    let good : clean (current r) ≡ true = ap clean (sym c.rest.ensures) ∙ sym c.is_clean.ensures ∙ yes in
-    refused_line (Unit {0}) (Unit {0}) (current r) (line_number r) c.in-Err.fault c.at-in-Err.result old c.take.new.self good c.in-Err.ensures.taken
-    (told_same c.at-in-Err.result c.in-Err.fault c.in-Err.fault c.line-line.result (line_number r) c.letter-body.result (state_of old).letter c.at-in-Err.ensures refl c.line-line.ensures c.letter-body.ensures)
 
 pub returns-clause-taken : goal.returns-clause-taken
 returns-clause-taken c =
@@ -35,4 +26,4 @@ returns-clause-taken c =
     let old = c.args.draft.now in
     let yes : c.is_clean.result ≡ true = search rules in
     let good : clean (current r) ≡ true = ap clean (sym c.rest.ensures) ∙ sym c.is_clean.ensures ∙ yes in
-    taken_line c.in_default.field-0 (current r) (line_number r) old c.take.new.self good c.in_default.ensures.taken
+    clean_line c.take.result (current r) (line_number r) old c.take.new.self good c.take.ensures.taken

@@ -1,7 +1,8 @@
-use Rattle.std.proofs.Common.{◌≡◌, w32, to_z, of_z, rules}
+use Rattle.std.proofs.Common.{◌≡◌, w32, to_z, of_z, refl, rules}
 use Rattle.tables.specs.Items.{entries}
 use Rattle.lexer.proofs.Moves.{same_line_trans}
 use Rattle.nestfile.proofs.RowLines.{sofar_more, not_closed}
+use Rattle.nestfile.proofs.Turns.{told_same}
 use Rattle.nestfile.proofs.rows.read_numbers.Goals as goal
 
 pub loop-value-preserved : goal.loop-value-preserved
@@ -15,7 +16,7 @@ returns-in_default-next_token c =
     record {
       found = (
         not_closed c.args.reader.now c.loop-value.reader c.next_token.new.self (entries c.loop-value.numbers) c.in-Number.bytes.now c.in-Number.value c.next_token-2.result c.loop-value.invariant c.in-Number.ensures.token c.next_token.ensures.rest c.if-value-eq0.true c.next_token-2.ensures.token c.in_default-next_token.not-LineEnd,
-        c.plain-wrong.ensures,
+        told_same _ _ _ _ _ _ _ c.at-in_default-next_token.ensures c.plain-in_default-next_token.ensures c.line-line.ensures refl,
       );
       same = same_line_trans c.loop-value.invariant.same (same_line_trans c.next_token.ensures.same c.next_token-2.ensures.same);
     }

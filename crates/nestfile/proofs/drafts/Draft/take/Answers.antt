@@ -6,8 +6,9 @@ use Rattle.lexer.proofs.Moves.{left_same}
 use Rattle.nestformat.specs.Due.{contents_due, row_due, due, bodies_due}
 use Rattle.nestformat.specs.Reading.{of_sort}
 use Rattle.nestfile.specs.declared.drafts.Phase.TheVariants.{Contents, Rows}
-use Rattle.nestfile.specs.Drafts.{slot_of, slots, state_of, PhaseSound, Taken}
+use Rattle.nestfile.specs.Drafts.{slot_of, slots, state_of, PhaseSound}
 use Rattle.nestfile.proofs.Steps.{sorted, due_contents, due_rows, no_end}
+use Rattle.nestfile.proofs.Turns.{on_line}
 use Rattle.nestfile.proofs.drafts.Draft.take.Goals as goal
 
 pub returns-in-Contents-clause-taken : goal.returns-in-Contents-clause-taken
@@ -19,9 +20,9 @@ returns-in-Contents-clause-taken c =
     let first : due (state_of old).todo ≡ contents_due = ap (λ x. due (slots x (entries old.parts.contents))) c.in-Contents.is ∙ due_contents c.in-Contents.left of_old.0 in
     let passed : c.is_of_sort.result ≡ true = search rules in
     let sort : of_sort contents_due (lead (left r)) ≡ true = subst (λ x. of_sort x (lead (left r)) ≡ true) (c.due-due.ensures ∙ first) (ap (of_sort (slot_of c.due-due.result)) (sym c.peek.ensures.value) ∙ sym c.is_of_sort.ensures ∙ passed) in
-    subst (λ j. Taken j t.result old t.new.self)
-    (sym (sorted contents_due (state_of old) (left r) (left c.peek.new.self) first (left_same r c.peek.new.self c.peek.ensures.same c.peek.ensures.stays) sort))
-    t.ensures.taken
+    on_line t.result _ _ _ _ old t.new.self
+    (sorted contents_due (state_of old) (left r) (left c.peek.new.self) first (left_same r c.peek.new.self c.peek.ensures.same c.peek.ensures.stays) sort)
+    c.peek.ensures.same.counts t.ensures.taken
 
 pub returns-in-Rows-clause-taken : goal.returns-in-Rows-clause-taken
 returns-in-Rows-clause-taken c =
@@ -33,9 +34,9 @@ returns-in-Rows-clause-taken c =
     let first : due (state_of old).todo ≡ row_due e = ap (λ x. due (slots x (entries old.parts.contents))) c.in-Rows.is ∙ due_rows e c.in-Rows.left c.in-Rows.next (entries old.parts.contents) of_old.some in
     let passed : c.is_of_sort.result ≡ true = search rules in
     let sort : of_sort (row_due e) (lead (left r)) ≡ true = subst (λ x. of_sort x (lead (left r)) ≡ true) (c.due-due.ensures ∙ first) (ap (of_sort (slot_of c.due-due.result)) (sym c.peek.ensures.value) ∙ sym c.is_of_sort.ensures ∙ passed) in
-    subst (λ j. Taken j t.result old t.new.self)
-    (sym (sorted (row_due e) (state_of old) (left r) (left c.peek.new.self) first (left_same r c.peek.new.self c.peek.ensures.same c.peek.ensures.stays) sort))
-    t.ensures.taken
+    on_line t.result _ _ _ _ old t.new.self
+    (sorted (row_due e) (state_of old) (left r) (left c.peek.new.self) first (left_same r c.peek.new.self c.peek.ensures.same c.peek.ensures.stays) sort)
+    c.peek.ensures.same.counts t.ensures.taken
 
 pub returns-in_default : goal.returns-in_default
 returns-in_default c =

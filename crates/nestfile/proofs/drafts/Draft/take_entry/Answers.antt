@@ -1,6 +1,6 @@
 use Rattle.std.proofs.Common.{◌≡◌, Ok, Err, refl, subst, rules}
 use Rattle.tables.specs.Items.{entries}
-use Rattle.lexer.specs.Scans.{left}
+use Rattle.lexer.specs.Scans.{left, line_number}
 use Rattle.nestformat.specs.Items.{contents_line}
 use Rattle.nestformat.specs.Due.{contents_due}
 use Rattle.nestfile.specs.declared.Parts.{Parts}
@@ -8,15 +8,16 @@ use Rattle.nestfile.specs.declared.drafts.Draft.{Draft}
 use Rattle.nestfile.specs.declared.drafts.Phase.TheVariants.{Contents}
 use Rattle.nestfile.specs.Judged.{judged}
 use Rattle.nestfile.specs.Drafts.{state_of, PhaseSound, Bare}
-use Rattle.nestfile.proofs.Steps.{judged_fits, entry_heard, entry_pushed, entry_step, same_rows, taken, refused_result}
+use Rattle.nestfile.proofs.Steps.{judged_fits, entry_heard, entry_faulty, entry_pushed, entry_step, same_rows, taken, refused_result}
 use Rattle.nestfile.proofs.drafts.Draft.take_entry.Goals as goal
 
 pub returns-in_err-entry-clause-taken : goal.returns-in_err-entry-clause-taken
 returns-in_err-entry-clause-taken c =
     let old = c.args.self.now in
-    let f = c.in_err-entry.field-0.0 in
-    let e : c.from_residual.result ≡ Err f = search rules in
-    refused_result (judged contents_due (state_of old) (left c.args.reader.now)) c.from_residual.result f old old e (entry_heard (state_of old) (left c.args.reader.now) c.as_slice.result.now (Err f) c.as_slice.ensures c.in_err-entry.ensures.told)
+    let n = line_number c.args.reader.now in
+    let g = c.in_err-entry.field-0.0 in
+    let e : c.from_residual.result ≡ Err g = search rules in
+    refused_result (judged contents_due (state_of old) (left c.args.reader.now)) n c.from_residual.result g old old e (entry_faulty (state_of old) n c.letter.result (left c.args.reader.now) c.as_slice.result.now g c.as_slice.ensures c.letter.ensures c.in_err-entry.ensures.told)
 
 pub returns-clause-taken : goal.returns-clause-taken
 returns-clause-taken c =
@@ -25,9 +26,9 @@ returns-clause-taken c =
     let e = c.in_ok-entry.entry in
     let q : Parts = record { map = p.map; contents = c.push.new.self; outer = p.outer; nest = p.nest; below = p.below; arcs = p.arcs; milliamperes = p.milliamperes; lines = p.lines } in
     let new : Draft = record { parts = q; phase = c.after_entry-self.result; opened = old.opened; numbers = old.numbers } in
-    let is : judged contents_due (state_of old) (left c.args.reader.now) ≡ Ok (contents_line e) = entry_heard (state_of old) (left c.args.reader.now) c.as_slice.result.now (Ok e) c.as_slice.ensures c.in_ok-entry.ensures.told in
+    let is : judged contents_due (state_of old) (left c.args.reader.now) ≡ Ok (contents_line e) = entry_heard (state_of old) (line_number c.args.reader.now) c.letter.result (left c.args.reader.now) c.as_slice.result.now e c.as_slice.ensures c.in_ok-entry.ensures.told in
     let ph : PhaseSound p old.opened (Contents c.args.count) = subst (PhaseSound p old.opened) c.requires.phase c.requires.sound.phase in
-    taken (judged contents_due (state_of old) (left c.args.reader.now)) (contents_line e) old new (Contents c.args.count) tt is c.requires.phase
+    taken (judged contents_due (state_of old) (left c.args.reader.now)) (line_number c.args.reader.now) (contents_line e) old new (Contents c.args.count) tt is c.requires.phase
     (entry_step p q old.opened c.args.count c.after_entry-self.result e c.requires.sound.good ph (judged_fits contents_due (state_of old) (left c.args.reader.now) (contents_line e) is) refl
     (entry_pushed c.push.result (entries p.contents) (entries c.push.new.self) e c.args.count c.push.ensures.value c.push.ensures.items ph.0 ph.1)
     c.after_entry-self.ensures

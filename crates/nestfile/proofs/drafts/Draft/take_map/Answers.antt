@@ -1,6 +1,6 @@
 use Rattle.std.proofs.Common.{◌≡◌, Ok, Err, Some, None, ◌∷◌, [], refl, ap, subst, ◌∙◌, rules}
 use Rattle.tables.specs.Items.{entries}
-use Rattle.lexer.specs.Scans.{left}
+use Rattle.lexer.specs.Scans.{left, line_number}
 use Rattle.nestformat.specs.Items.{row_line}
 use Rattle.nestformat.specs.Due.{map_due, host_of}
 use Rattle.nestfile.specs.declared.drafts.Draft.{Draft}
@@ -9,14 +9,16 @@ use Rattle.nestfile.specs.Judged.{judged}
 use Rattle.nestfile.specs.Drafts.{state_of, PhaseSound, Bare}
 use Rattle.nestfile.proofs.RowLines.{map_heard, map_unread}
 use Rattle.nestfile.proofs.Steps.{map_step, atoms_few, taken, refused, refused_result}
+use Rattle.nestfile.proofs.Turns.{told_same}
 use Rattle.nestfile.proofs.drafts.Draft.take_map.Goals as goal
 
 pub returns-in_err-read_row-clause-taken : goal.returns-in_err-read_row-clause-taken
 returns-in_err-read_row-clause-taken c =
     let old = c.args.self.now in
-    let f = c.in_err-read_row.field-0.0 in
-    let e : c.from_residual.result ≡ Err f = search rules in
-    refused_result (judged (map_due c.args.entry) (state_of old) (left c.args.reader.now)) c.from_residual.result f old _ e (map_unread c.args.entry (state_of old) (left c.args.reader.now) (entries c.read_row.new.numbers) f c.in_err-read_row.ensures.read)
+    let r = c.args.reader.now in
+    let g = c.in_err-read_row.field-0.0 in
+    let e : c.from_residual.result ≡ Err g = search rules in
+    refused_result (judged (map_due c.args.entry) (state_of old) (left r)) (line_number r) c.from_residual.result g old _ e (map_unread c.args.entry (state_of old) (line_number r) c.letter-body.result (left r) (entries c.read_row.new.numbers) g c.letter-body.ensures c.in_err-read_row.ensures.read)
 
 pub add_map-requires-clause-near : goal.add_map-requires-clause-near
 add_map-requires-clause-near c = atoms_few (host_of c.args.entry.kind) (entries c.args.self.now.parts.contents) c.requires.sound.good
@@ -25,7 +27,7 @@ pub returns-in-Err-clause-taken : goal.returns-in-Err-clause-taken
 returns-in-Err-clause-taken c =
     let s = state_of c.args.self.now in
     let read = c.in_ok-read_row.ensures.read in
-    refused _ _ _ _ _ _ (map_heard c.args.entry s (left c.args.reader.now) (entries c.read_row.new.numbers) c.as_slice.result.now (Some c.in-Err.cause) read.0 read.1 c.as_slice.ensures c.in-Err.ensures.refused) refl
+    refused _ _ _ _ _ _ _ (map_heard c.args.entry s (left c.args.reader.now) (entries c.read_row.new.numbers) c.as_slice.result.now (Some c.in-Err.cause) read.0 read.1 c.as_slice.ensures c.in-Err.ensures.refused) (told_same _ _ _ _ _ _ _ c.at.ensures refl c.line-line.ensures c.letter-body.ensures)
 
 pub returns-clause-taken : goal.returns-clause-taken
 returns-clause-taken c =
@@ -38,5 +40,5 @@ returns-clause-taken c =
     let read = c.in_ok-read_row.ensures.read in
     let is : judged (map_due e) (state_of old) (left c.args.reader.now) ≡ Ok (row_line zs) = map_heard e (state_of old) (left c.args.reader.now) zs c.as_slice.result.now None read.0 read.1 c.as_slice.ensures c.in_default.ensures.refused in
     let ph : PhaseSound old.parts old.opened (Map e c.args.next) = subst (PhaseSound old.parts old.opened) c.requires.phase c.requires.sound.phase in
-    taken (judged (map_due e) (state_of old) (left c.args.reader.now)) (row_line zs) old new (Map e c.args.next) tt is c.requires.phase
+    taken (judged (map_due e) (state_of old) (left c.args.reader.now)) (line_number c.args.reader.now) (row_line zs) old new (Map e c.args.next) tt is c.requires.phase
     (map_step old.parts q old.opened e c.args.next y zs c.requires.sound.good ph c.in_default.ensures.others (c.in_default.ensures.rows ∙ ap (λ x. x ∷ []) c.as_slice.ensures) c.in_default.ensures.clauses (c.in_default.ensures.ready refl) c.rows_left-self.ensures (subst (Bare old.parts) c.requires.phase c.requires.sound.bare))
