@@ -2,6 +2,7 @@ pub mod Rows
 pub mod Bodies
 pub mod Problems
 pub mod Tokens
+pub mod Sorts
 pub mod Entries
 pub mod Judged
 pub mod Closed

@@ -1,7 +1,8 @@
 // The line that is due, and whether a line is of its sort.
-ghost use Rattle.std.specs.Prelude.{◌≡◌};
+ghost use Rattle.std.specs.Prelude.{◌≡◌, true};
 ghost use Rattle.nestformat.specs.Reading.{of_sort, skipped, sort_refusal};
 ghost use Rattle.nestfile.specs.Drafts.{slot_of};
+ghost use Rattle.nestfile.specs.Sorts.{begins};
 
 use nestformat::kinds::Contents;
 use refusals::Refusal;
@@ -18,13 +19,38 @@ pub(crate) enum Due {
     End,
 }
 
+// What a line is, by the first character that is no space.
+#[derive(Clone, Copy, PartialEq, Eq, Debug)]
+pub(crate) enum Sort {
+    Comment,
+    Heading,
+    Contents,
+    Body,
+    Row,
+    // none that a nest file may have
+    Other,
+}
+
+fn sort_of(first: u8) -> Sort
+    ensures { begins result first ≡ true }
+{
+    match char::from(first) {
+        'c' => Sort::Comment,
+        'p' => Sort::Heading,
+        't' => Sort::Contents,
+        'b' => Sort::Body,
+        '0'..='9' | '-' => Sort::Row,
+        _ => Sort::Other,
+    }
+}
+
 // A comment or a blank line, by the first character that is no space.
 pub(crate) fn is_skipped(first: Option<u8>) -> bool
     ensures { result ≡ skipped first }
 {
     match first {
         None => true,
-        Some(byte) => matches!(char::from(byte), 'c'),
+        Some(byte) => sort_of(byte) == Sort::Comment,
     }
 }
 
@@ -36,11 +62,12 @@ impl Due {
         let Some(byte) = first else {
             return false;
         };
+        let sort = sort_of(byte);
         match self {
-            Due::Heading => matches!(char::from(byte), 'p'),
-            Due::Contents => matches!(char::from(byte), 't'),
-            Due::Body(_) => matches!(char::from(byte), 'b'),
-            Due::Map(_) | Due::Row(_) => matches!(char::from(byte), '0'..='9' | '-'),
+            Due::Heading => sort == Sort::Heading,
+            Due::Contents => sort == Sort::Contents,
+            Due::Body(_) => sort == Sort::Body,
+            Due::Map(_) | Due::Row(_) => sort == Sort::Row,
             Due::End => false,
         }
     }
