@@ -27,8 +27,8 @@ use Rattle.nestformat.specs.Due.{map_due, row_due, State, in_row, same_line, num
 use Rattle.nestformat.specs.Reading.{fault_at}
 use Rattle.nestfile.specs.Rows.{caused}
 use Rattle.nestfile.specs.Bodies.{refusal_at}
-use Rattle.nestfile.specs.Closed.{row_number_limit, with_front, only_end, closed, RowRead, heard_row}
-use Rattle.nestfile.specs.Judged.{judged}
+use Rattle.nestfile.specs.Closed.{row_number_limit, with_front, only_end, closed, RowRead, item_of_row}
+use Rattle.nestfile.specs.LineItems.{item_or_fault}
 
 -- the numbers zs were found between the two places of a reader, and the rest of the row is still to come
 pub record Sofar (begun now : Reader) (zs : List ℤ) : Type 0 where
@@ -179,12 +179,12 @@ closed_says (t ∷ u ∷ us) h =
 
 -- the judge of a row, by what is closed
 
-by_form : (f : Bool) (o : Option Refusal) (zs : List ℤ) → cond (f && is_none o) (Ok (row_line zs)) (Err (record { refusal = RowRefused; cause = cond f o None })) ≡ heard_row zs (cond f (caused o) (Some None))
+by_form : (f : Bool) (o : Option Refusal) (zs : List ℤ) → cond (f && is_none o) (Ok (row_line zs)) (Err (record { refusal = RowRefused; cause = cond f o None })) ≡ item_of_row zs (cond f (caused o) (Some None))
 by_form true None zs = refl
 by_form true (Some c) zs = refl
 by_form false o zs = refl
 
-by_tests : (w r f : Bool) (o : Option Refusal) (zs : List ℤ) → (w && r) ≡ true → cond (w && ((r && f) && is_none o)) (Ok (row_line zs)) (Err (record { refusal = RowRefused; cause = cond (w && (r && f)) o None })) ≡ heard_row zs (cond f (caused o) (Some None))
+by_tests : (w r f : Bool) (o : Option Refusal) (zs : List ℤ) → (w && r) ≡ true → cond (w && ((r && f) && is_none o)) (Ok (row_line zs)) (Err (record { refusal = RowRefused; cause = cond (w && (r && f)) o None })) ≡ item_of_row zs (cond f (caused o) (Some None))
 by_tests true true f o zs h = by_form f o zs
 by_tests true false f o zs h = absurd (both_ways false refl h)
 by_tests false r f o zs h = absurd (both_ways false refl h)
@@ -211,42 +211,42 @@ is_open ts h c = ⊎_elim
     (cases_Bool (same_line ts (map signed_decimal (numbers_said ts) ++ codes "0" ∷ []) && list_all in_row (numbers_said ts)))
 
 module _ (e : Contents) (s : State) (ts : List (List ℕ)) (h : all_numbers ts ≡ true) where
-  pub map_closed : (zs : List ℤ) → closed ts ≡ Some zs → judged (map_due e) s ts ≡ heard_row zs (cond (form (map_due e) zs) (caused (refusal_below (map_due e) s zs)) (Some None))
+  pub map_closed : (zs : List ℤ) → closed ts ≡ Some zs → item_or_fault (map_due e) s ts ≡ item_of_row zs (cond (form (map_due e) zs) (caused (refusal_below (map_due e) s zs)) (Some None))
   map_closed zs c =
       let p = is_closed ts zs h c in
       cond-false _ _ _ (ap not h)
       ∙ by_tests _ _ (form (map_due e) (numbers_said ts)) (refusal_below (map_due e) s (numbers_said ts)) (numbers_said ts) p.1
-      ∙ ap (λ x. heard_row x (cond (form (map_due e) x) (caused (refusal_below (map_due e) s x)) (Some None))) (sym p.0)
+      ∙ ap (λ x. item_of_row x (cond (form (map_due e) x) (caused (refusal_below (map_due e) s x)) (Some None))) (sym p.0)
 
-  pub map_open : closed ts ≡ None → judged (map_due e) s ts ≡ Err (plain RowRefused)
+  pub map_open : closed ts ≡ None → item_or_fault (map_due e) s ts ≡ Err (plain RowRefused)
   map_open c = cond-false _ _ _ (ap not h) ∙ unsaid _ _ (form (map_due e) (numbers_said ts)) (refusal_below (map_due e) s (numbers_said ts)) (numbers_said ts) (is_open ts h c)
 
-  pub row_closed : (zs : List ℤ) → closed ts ≡ Some zs → judged (row_due e) s ts ≡ heard_row zs (cond (form (row_due e) zs) (caused (refusal_below (row_due e) s zs)) (Some None))
+  pub row_closed : (zs : List ℤ) → closed ts ≡ Some zs → item_or_fault (row_due e) s ts ≡ item_of_row zs (cond (form (row_due e) zs) (caused (refusal_below (row_due e) s zs)) (Some None))
   row_closed zs c =
       let p = is_closed ts zs h c in
       cond-false _ _ _ (ap not h)
       ∙ by_tests _ _ (form (row_due e) (numbers_said ts)) (refusal_below (row_due e) s (numbers_said ts)) (numbers_said ts) p.1
-      ∙ ap (λ x. heard_row x (cond (form (row_due e) x) (caused (refusal_below (row_due e) s x)) (Some None))) (sym p.0)
+      ∙ ap (λ x. item_of_row x (cond (form (row_due e) x) (caused (refusal_below (row_due e) s x)) (Some None))) (sym p.0)
 
-  pub row_open : closed ts ≡ None → judged (row_due e) s ts ≡ Err (plain RowRefused)
+  pub row_open : closed ts ≡ None → item_or_fault (row_due e) s ts ≡ Err (plain RowRefused)
   row_open c = cond-false _ _ _ (ap not h) ∙ unsaid _ _ (form (row_due e) (numbers_said ts)) (refusal_below (row_due e) s (numbers_said ts)) (numbers_said ts) (is_open ts h c)
 
--- what the code hears of a row that it read
+-- a row that was read
 
-pub map_heard : (e : Contents) (s : State) (ts : List (List ℕ)) (zs ws : List ℤ) (r : Option (Option Refusal)) → all_numbers ts ≡ true → closed ts ≡ Some zs → ws ≡ zs → r ≡ refusal_at (map_due e) s.contents [] ws → judged (map_due e) s ts ≡ heard_row zs r
-map_heard e s ts zs ws r h c w t = map_closed e s ts h zs c ∙ ap (heard_row zs) (sym (t ∙ ap (refusal_at (map_due e) s.contents []) w))
+pub map_read : (e : Contents) (s : State) (ts : List (List ℕ)) (zs ws : List ℤ) (r : Option (Option Refusal)) → all_numbers ts ≡ true → closed ts ≡ Some zs → ws ≡ zs → r ≡ refusal_at (map_due e) s.contents [] ws → item_or_fault (map_due e) s ts ≡ item_of_row zs r
+map_read e s ts zs ws r h c w t = map_closed e s ts h zs c ∙ ap (item_of_row zs) (sym (t ∙ ap (refusal_at (map_due e) s.contents []) w))
 
-pub row_heard : (e : Contents) (s : State) (ts : List (List ℕ)) (zs ws : List ℤ) (cs : List (List ℤ)) (r : Option (Option Refusal)) → all_numbers ts ≡ true → closed ts ≡ Some zs → ws ≡ zs → cs ≡ s.clauses → r ≡ refusal_at (row_due e) s.contents cs ws → judged (row_due e) s ts ≡ heard_row zs r
-row_heard e s ts zs ws cs r h c w k t = row_closed e s ts h zs c ∙ ap (heard_row zs) (sym (t ∙ ap₂ (λ x y. refusal_at (row_due e) s.contents x y) k w))
+pub row_read : (e : Contents) (s : State) (ts : List (List ℕ)) (zs ws : List ℤ) (cs : List (List ℤ)) (r : Option (Option Refusal)) → all_numbers ts ≡ true → closed ts ≡ Some zs → ws ≡ zs → cs ≡ s.clauses → r ≡ refusal_at (row_due e) s.contents cs ws → item_or_fault (row_due e) s ts ≡ item_of_row zs r
+row_read e s ts zs ws cs r h c w k t = row_closed e s ts h zs c ∙ ap (item_of_row zs) (sym (t ∙ ap₂ (λ x y. refusal_at (row_due e) s.contents x y) k w))
 
 -- a row that could not be read
-pub map_unread : (e : Contents) (s : State) (n b : ℕ) (ts : List (List ℕ)) (zs : List ℤ) (g : Fault) → b ≡ s.letter → RowRead {T = Unit {0}} ts zs n b (Err g) → (f : LineFault) × (judged (map_due e) s ts ≡ Err f) × (g ≡ fault_at s n f)
+pub map_unread : (e : Contents) (s : State) (n b : ℕ) (ts : List (List ℕ)) (zs : List ℤ) (g : Fault) → b ≡ s.letter → RowRead {T = Unit {0}} ts zs n b (Err g) → (f : LineFault) × (item_or_fault (map_due e) s ts ≡ Err f) × (g ≡ fault_at s n f)
 map_unread e s n b ts zs g k h = ⊎_elim
     (λ (w : (all_numbers ts ≡ false) × (g ≡ told_at (plain BadNumber) n b)). (plain BadNumber, cond-true _ _ _ (ap not w.0), w.1 ∙ ap (told_at (plain BadNumber) n) k))
     (λ (w : (all_numbers ts ≡ true) × (closed ts ≡ None) × (g ≡ told_at (plain RowRefused) n b)). (plain RowRefused, map_open e s ts w.0 w.1, w.2 ∙ ap (told_at (plain RowRefused) n) k))
     h
 
-pub row_unread : (e : Contents) (s : State) (n b : ℕ) (ts : List (List ℕ)) (zs : List ℤ) (g : Fault) → b ≡ s.letter → RowRead {T = Unit {0}} ts zs n b (Err g) → (f : LineFault) × (judged (row_due e) s ts ≡ Err f) × (g ≡ fault_at s n f)
+pub row_unread : (e : Contents) (s : State) (n b : ℕ) (ts : List (List ℕ)) (zs : List ℤ) (g : Fault) → b ≡ s.letter → RowRead {T = Unit {0}} ts zs n b (Err g) → (f : LineFault) × (item_or_fault (row_due e) s ts ≡ Err f) × (g ≡ fault_at s n f)
 row_unread e s n b ts zs g k h = ⊎_elim
     (λ (w : (all_numbers ts ≡ false) × (g ≡ told_at (plain BadNumber) n b)). (plain BadNumber, cond-true _ _ _ (ap not w.0), w.1 ∙ ap (told_at (plain BadNumber) n) k))
     (λ (w : (all_numbers ts ≡ true) × (closed ts ≡ None) × (g ≡ told_at (plain RowRefused) n b)). (plain RowRefused, row_open e s ts w.0 w.1, w.2 ∙ ap (told_at (plain RowRefused) n) k))

@@ -37,7 +37,7 @@ use Rattle.nestfile.specs.declared.drafts.Phase.TheVariants.{Heading as AtHeadin
 use Rattle.clauses.specs.Books.{clauses_of}
 use Rattle.nestfile.specs.Rows.{arc_numbers, load_numbers}
 use Rattle.nestfile.specs.Bodies.{rows_of, clauses_in, body_of, nest_clauses, nest_rows, IsBegun, IsReady, Others}
-use Rattle.nestfile.specs.Judged.{judged, heard_heading, heard_contents, heard_opening}
+use Rattle.nestfile.specs.LineItems.{item_or_fault, item_of_heading, item_of_entry, item_of_opening}
 use Rattle.std.specs.Option.{option_map}
 use Rattle.nestfile.specs.Drafts.{slot_of, slots, state_of, state_with, clauses_opened, bodies_items, items_to, items_with, EntriesLeft, RowsLeft, Good, Here, MapSound, RowsSound, PhaseSound, Bare, opened_in, LineTaken}
 
@@ -50,8 +50,8 @@ ok_here : {A E : Type 0} (b : Bool) (e : E) (y x : A) → cond b (Ok y) (Err e) 
 ok_here true e y x h = let z : Ok y ≡ Ok x = h in (refl, cc)
 ok_here false e y x h = let z : Err e ≡ Ok x = h in absurd (cc)
 
-pub judged_fits : (x : Slot) (s : State) (ts : List (List ℕ)) (it : Item) → judged x s ts ≡ Ok it → fits_at x s it ≡ true
-judged_fits x s ts it h =
+pub item_fits : (x : Slot) (s : State) (ts : List (List ℕ)) (it : Item) → item_or_fault x s ts ≡ Ok it → fits_at x s it ≡ true
+item_fits x s ts it h =
     let a = ok_past (not (all_numbers (number_places x ts))) (plain BadNumber) (cond (as_written x ts && fits_at x s (says x ts)) (Ok (says x ts)) (Err (wrong x s ts))) it h in
     let b = ok_here (as_written x ts && fits_at x s (says x ts)) (wrong x s ts) (says x ts) it a in
     subst (λ i. fits_at x s i ≡ true) b.1 (and_parts (as_written x ts) (fits_at x s (says x ts)) b.0).1
@@ -456,9 +456,9 @@ pub entry_pushed : (ok : Bool) (es fs : List Contents) (e : Contents) (left : �
 entry_pushed ok es fs e left h f a b = f ∙ cond-true _ _ _ (h ∙ lt-ltb _ _ (omega arith))
 
 -- the judge past the bytes and the sort
-pub sorted : (x : Slot) (s : State) (ts us : List (List ℕ)) → due s.todo ≡ x → us ≡ ts → of_sort x (lead ts) ≡ true → judge (due s.todo) s true ts ≡ judged x s us
+pub sorted : (x : Slot) (s : State) (ts us : List (List ℕ)) → due s.todo ≡ x → us ≡ ts → of_sort x (lead ts) ≡ true → judge (due s.todo) s true ts ≡ item_or_fault x s us
 sorted x s ts us e l h =
-    ap (λ y. judge y s true ts) e ∙ cond-false _ _ _ (ap not h) ∙ ap (judged x s) (sym l)
+    ap (λ y. judge y s true ts) e ∙ cond-false _ _ _ (ap not h) ∙ ap (item_or_fault x s) (sym l)
 
 pub due_contents : (n : ℕ) → 1 ≤ n → due (replicate n contents_due) ≡ contents_due
 due_contents zero h = absurd (omega arith)
@@ -480,7 +480,7 @@ no_end (f ∷ l) (MapDue e) o h x s = let y : map_due e ≡ body_due f = h in cc
 no_end [] (RowDue e) o h x s = let y : row_due e ≡ end_due = h in cc
 no_end (f ∷ l) (RowDue e) o h x s = let y : row_due e ≡ body_due f = h in cc
 
--- the answers of the lines' readers, as the judge's
+-- the answers of what reads a line, as items
 
 -- a placed answer by what was placed
 placed_ok : {T : Type 0} (n b : ℕ) (q : Result T LineFault) (x : T) → Ok x ≡ placed n b q → q ≡ Ok x
@@ -503,33 +503,33 @@ module _ (s : State) (n b : ℕ) (ts : List (List ℕ)) where
   abbrev heading_here : Result Heading LineFault
   heading_here = heading_told (first ts) (first (drop 1 ts)) (first (drop 1 (drop 1 ts))) (first (drop 1 (drop 1 (drop 1 ts)))) (first (drop 1 (drop 1 (drop 1 (drop 1 ts)))))
 
-  pub heading_heard : (h : Heading) → Ok h ≡ placed n b heading_here → judged heading_due s ts ≡ Ok (heading_line h)
-  heading_heard h e = heading_judged s ts ∙ ap heard_heading (placed_ok n b heading_here h e)
+  pub heading_read : (h : Heading) → Ok h ≡ placed n b heading_here → item_or_fault heading_due s ts ≡ Ok (heading_line h)
+  heading_read h e = heading_judged s ts ∙ ap item_of_heading (placed_ok n b heading_here h e)
 
-  pub heading_faulty : (g : Fault) → b ≡ s.letter → Err g ≡ placed n b heading_here → (f : LineFault) × (judged heading_due s ts ≡ Err f) × (g ≡ fault_at s n f)
-  heading_faulty g k e = let p = placed_err n b heading_here g e in (p.0, heading_judged s ts ∙ ap heard_heading p.1, p.2 ∙ ap (told_at p.0 n) k)
+  pub heading_faulty : (g : Fault) → b ≡ s.letter → Err g ≡ placed n b heading_here → (f : LineFault) × (item_or_fault heading_due s ts ≡ Err f) × (g ≡ fault_at s n f)
+  heading_faulty g k e = let p = placed_err n b heading_here g e in (p.0, heading_judged s ts ∙ ap item_of_heading p.1, p.2 ∙ ap (told_at p.0 n) k)
 
   abbrev entry_here : List Contents → Result Contents LineFault
   entry_here es = contents_told (first ts) (first (drop 1 ts)) (first (drop 1 (drop 1 ts))) (first (drop 1 (drop 1 (drop 1 ts)))) (first (drop 1 (drop 1 (drop 1 (drop 1 ts))))) (first (drop 1 (drop 1 (drop 1 (drop 1 (drop 1 ts)))))) es
 
-  pub entry_heard : (es : List Contents) (x : Contents) → es ≡ s.contents → Ok x ≡ placed n b (entry_here es) → judged contents_due s ts ≡ Ok (contents_line x)
-  entry_heard es x c e = entry_judged s ts ∙ ap heard_contents (sym (ap entry_here c) ∙ placed_ok n b (entry_here es) x e)
+  pub entry_read : (es : List Contents) (x : Contents) → es ≡ s.contents → Ok x ≡ placed n b (entry_here es) → item_or_fault contents_due s ts ≡ Ok (contents_line x)
+  entry_read es x c e = entry_judged s ts ∙ ap item_of_entry (sym (ap entry_here c) ∙ placed_ok n b (entry_here es) x e)
 
-  pub entry_faulty : (es : List Contents) (g : Fault) → es ≡ s.contents → b ≡ s.letter → Err g ≡ placed n b (entry_here es) → (f : LineFault) × (judged contents_due s ts ≡ Err f) × (g ≡ fault_at s n f)
+  pub entry_faulty : (es : List Contents) (g : Fault) → es ≡ s.contents → b ≡ s.letter → Err g ≡ placed n b (entry_here es) → (f : LineFault) × (item_or_fault contents_due s ts ≡ Err f) × (g ≡ fault_at s n f)
   entry_faulty es g c k e =
       let p = placed_err n b (entry_here es) g e in
-      (p.0, entry_judged s ts ∙ ap heard_contents (sym (ap entry_here c) ∙ p.1), p.2 ∙ ap (told_at p.0 n) k)
+      (p.0, entry_judged s ts ∙ ap item_of_entry (sym (ap entry_here c) ∙ p.1), p.2 ∙ ap (told_at p.0 n) k)
 
   abbrev opening_here : Contents → Option LineFault
   opening_here e = opening_fault (first ts) (first (drop 1 ts)) (first (drop 1 (drop 1 ts))) (first (drop 1 (drop 1 (drop 1 ts)))) e.kind s.map
 
-  pub opening_heard : (e : Contents) → None ≡ option_map (λ f. told_at f n b) (opening_here e) → judged (body_due e) s ts ≡ Ok (body_line e.kind s.map)
-  opening_heard e h = opening_judged e s ts ∙ ap (heard_opening e.kind s.map) (mapped_none n b (opening_here e) h)
+  pub opening_read : (e : Contents) → None ≡ option_map (λ f. told_at f n b) (opening_here e) → item_or_fault (body_due e) s ts ≡ Ok (body_line e.kind s.map)
+  opening_read e h = opening_judged e s ts ∙ ap (item_of_opening e.kind s.map) (mapped_none n b (opening_here e) h)
 
-  pub opening_faulty : (e : Contents) (g : Fault) → b ≡ s.letter → Some g ≡ option_map (λ f. told_at f n b) (opening_here e) → (f : LineFault) × (judged (body_due e) s ts ≡ Err f) × (g ≡ fault_at s n f)
+  pub opening_faulty : (e : Contents) (g : Fault) → b ≡ s.letter → Some g ≡ option_map (λ f. told_at f n b) (opening_here e) → (f : LineFault) × (item_or_fault (body_due e) s ts ≡ Err f) × (g ≡ fault_at s n f)
   opening_faulty e g k h =
       let p = mapped_some n b (opening_here e) g h in
-      (p.0, opening_judged e s ts ∙ ap (heard_opening e.kind s.map) p.1, p.2 ∙ ap (told_at p.0 n) k)
+      (p.0, opening_judged e s ts ∙ ap (item_of_opening e.kind s.map) p.1, p.2 ∙ ap (told_at p.0 n) k)
 
 pub refused_result : {T : Type 0} (j : Result Item LineFault) (n : ℕ) (r : Result T Fault) (g : Fault) (old new : Draft) → r ≡ Err g → (f : LineFault) × (j ≡ Err f) × (g ≡ fault_at (state_of old) n f) → LineTaken j n r old new
 refused_result {T = T} j n r g old new e h = subst (λ x. LineTaken j n x old new) (sym e) (refused T j n h.0 g old new h.1 h.2)

@@ -31,10 +31,10 @@ abbrev pub Found : {T : Type 0} → Option (List ℤ) → List ℤ → ℕ → �
 Found o zs n b (Ok x) = o ≡ Some zs
 Found o zs n b (Err g) = (o ≡ None) × (g ≡ told_at (plain RowRefused) n b)
 
--- what became of a row of numbers: it is right, or refused with a cause or none
-abbrev pub heard_row : List ℤ → Option (Option Refusal) → Result Item LineFault
-heard_row zs None = Ok (row_line zs)
-heard_row zs (Some c) = Err (record { refusal = RowRefused; cause = c })
+-- a row of these numbers: it is right, or refused with a cause or none
+abbrev pub item_of_row : List ℤ → Option (Option Refusal) → Result Item LineFault
+item_of_row zs None = Ok (row_line zs)
+item_of_row zs (Some c) = Err (record { refusal = RowRefused; cause = c })
 
 -- the same of a whole row: it was read, or some token is no number, or its numbers are not closed
 abbrev pub RowRead : {T : Type 0} → List (List ℕ) → List ℤ → ℕ → ℕ → Result T Fault → Type 0

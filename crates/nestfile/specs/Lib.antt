@@ -4,7 +4,7 @@ pub mod Problems
 pub mod Tokens
 pub mod Sorts
 pub mod Entries
-pub mod Judged
+pub mod LineItems
 pub mod Closed
 pub mod Drafts
 pub mod Read

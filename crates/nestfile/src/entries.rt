@@ -52,7 +52,7 @@ fn fault_of(kind: BodyKind, size: i32, own: i32) -> LineFault
 }
 
 // The entry of these numbers, or what is wrong with it.
-fn judged(
+fn entry_or_fault(
     kind: BodyKind,
     size: i32,
     own: i32,
@@ -100,7 +100,7 @@ fn entry_of(
     let Token::Number { value: rows, .. } = rows else {
         return Err(wrong);
     };
-    judged(kind, size, own, rows, before)
+    entry_or_fault(kind, size, own, rows, before)
 }
 
 // The entry that the line has, after others.

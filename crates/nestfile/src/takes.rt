@@ -4,7 +4,7 @@ ghost use Rattle.lexer.specs.Scans.{left, line_number, SameLine};
 ghost use Rattle.nestformat.specs.Due.{heading_due, contents_due, body_due, map_due, row_due, due};
 ghost use Rattle.nestformat.specs.Reading.{judge};
 ghost use Rattle.nestfile.specs.Closed.{row_number_limit};
-ghost use Rattle.nestfile.specs.Judged.{judged};
+ghost use Rattle.nestfile.specs.LineItems.{item_or_fault};
 ghost use Rattle.nestfile.specs.Drafts.{state_of, Sound, LineTaken};
 ghost use Rattle.nestfile.specs.declared.drafts.Phase.TheVariants.{Heading, Contents, Bodies, Map, Rows};
 
@@ -23,7 +23,7 @@ impl Draft {
     fn take_heading(&mut self, reader: &mut Reader<'_>) -> Result<(), Fault>
         requires phase { self.old.phase ≡ Heading }
         requires sound { Sound self.old }
-        ensures taken { LineTaken (judged heading_due (state_of self.old) (left reader.old)) (line_number reader.old) result self.old self.new }
+        ensures taken { LineTaken (item_or_fault heading_due (state_of self.old) (left reader.old)) (line_number reader.old) result self.old self.new }
         ensures same { SameLine reader.old reader.new }
     {
         let heading = read_heading(reader, self.letter())?;
@@ -37,7 +37,7 @@ impl Draft {
     fn take_entry(&mut self, reader: &mut Reader<'_>, count: usize) -> Result<(), Fault>
         requires phase { self.old.phase ≡ Contents count }
         requires sound { Sound self.old }
-        ensures taken { LineTaken (judged contents_due (state_of self.old) (left reader.old)) (line_number reader.old) result self.old self.new }
+        ensures taken { LineTaken (item_or_fault contents_due (state_of self.old) (left reader.old)) (line_number reader.old) result self.old self.new }
         ensures same { SameLine reader.old reader.new }
     {
         let entry = read_entry(reader, self.letter(), self.parts.contents.as_slice())?;
@@ -55,7 +55,7 @@ impl Draft {
         requires phase { self.old.phase ≡ Bodies next }
         requires entry { due (state_of self.old).todo ≡ body_due entry }
         requires sound { Sound self.old }
-        ensures taken { LineTaken (judged (body_due entry) (state_of self.old) (left reader.old)) (line_number reader.old) result self.old self.new }
+        ensures taken { LineTaken (item_or_fault (body_due entry) (state_of self.old) (left reader.old)) (line_number reader.old) result self.old self.new }
         ensures same { SameLine reader.old reader.new }
     {
         read_opening(reader, self.letter(), entry.kind, self.parts.map)?;
@@ -74,7 +74,7 @@ impl Draft {
         requires phase { self.old.phase ≡ Map entry next }
         requires sound { Sound self.old }
         requires few { length (left reader.old) ≤ row_number_limit }
-        ensures taken { LineTaken (judged (map_due entry) (state_of self.old) (left reader.old)) (line_number reader.old) result self.old self.new }
+        ensures taken { LineTaken (item_or_fault (map_due entry) (state_of self.old) (left reader.old)) (line_number reader.old) result self.old self.new }
         ensures same { SameLine reader.old reader.new }
     {
         let (line, body) = (reader.line(), self.letter());
@@ -101,7 +101,7 @@ impl Draft {
         requires phase { self.old.phase ≡ Rows entry count next }
         requires sound { Sound self.old }
         requires few { length (left reader.old) ≤ row_number_limit }
-        ensures taken { LineTaken (judged (row_due entry) (state_of self.old) (left reader.old)) (line_number reader.old) result self.old self.new }
+        ensures taken { LineTaken (item_or_fault (row_due entry) (state_of self.old) (left reader.old)) (line_number reader.old) result self.old self.new }
         ensures same { SameLine reader.old reader.new }
     {
         let (line, body) = (reader.line(), self.letter());

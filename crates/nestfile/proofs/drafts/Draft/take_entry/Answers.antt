@@ -6,9 +6,9 @@ use Rattle.nestformat.specs.Due.{contents_due}
 use Rattle.nestfile.specs.declared.Parts.{Parts}
 use Rattle.nestfile.specs.declared.drafts.Draft.{Draft}
 use Rattle.nestfile.specs.declared.drafts.Phase.TheVariants.{Contents}
-use Rattle.nestfile.specs.Judged.{judged}
+use Rattle.nestfile.specs.LineItems.{item_or_fault}
 use Rattle.nestfile.specs.Drafts.{state_of, PhaseSound, Bare}
-use Rattle.nestfile.proofs.Steps.{judged_fits, entry_heard, entry_faulty, entry_pushed, entry_step, same_rows, taken, refused_result}
+use Rattle.nestfile.proofs.Steps.{item_fits, entry_read, entry_faulty, entry_pushed, entry_step, same_rows, taken, refused_result}
 use Rattle.nestfile.proofs.drafts.Draft.take_entry.Goals as goal
 
 pub returns-in_err-entry-clause-taken : goal.returns-in_err-entry-clause-taken
@@ -17,7 +17,7 @@ returns-in_err-entry-clause-taken c =
     let n = line_number c.args.reader.now in
     let g = c.in_err-entry.field-0.0 in
     let e : c.from_residual.result ≡ Err g = search rules in
-    refused_result (judged contents_due (state_of old) (left c.args.reader.now)) n c.from_residual.result g old old e (entry_faulty (state_of old) n c.letter.result (left c.args.reader.now) c.as_slice.result.now g c.as_slice.ensures c.letter.ensures c.in_err-entry.ensures.told)
+    refused_result (item_or_fault contents_due (state_of old) (left c.args.reader.now)) n c.from_residual.result g old old e (entry_faulty (state_of old) n c.letter.result (left c.args.reader.now) c.as_slice.result.now g c.as_slice.ensures c.letter.ensures c.in_err-entry.ensures.told)
 
 pub returns-clause-taken : goal.returns-clause-taken
 returns-clause-taken c =
@@ -26,10 +26,10 @@ returns-clause-taken c =
     let e = c.in_ok-entry.entry in
     let q : Parts = record { map = p.map; contents = c.push.new.self; outer = p.outer; nest = p.nest; below = p.below; arcs = p.arcs; milliamperes = p.milliamperes; lines = p.lines } in
     let new : Draft = record { parts = q; phase = c.after_entry-self.result; opened = old.opened; numbers = old.numbers } in
-    let is : judged contents_due (state_of old) (left c.args.reader.now) ≡ Ok (contents_line e) = entry_heard (state_of old) (line_number c.args.reader.now) c.letter.result (left c.args.reader.now) c.as_slice.result.now e c.as_slice.ensures c.in_ok-entry.ensures.told in
+    let is : item_or_fault contents_due (state_of old) (left c.args.reader.now) ≡ Ok (contents_line e) = entry_read (state_of old) (line_number c.args.reader.now) c.letter.result (left c.args.reader.now) c.as_slice.result.now e c.as_slice.ensures c.in_ok-entry.ensures.told in
     let ph : PhaseSound p old.opened (Contents c.args.count) = subst (PhaseSound p old.opened) c.requires.phase c.requires.sound.phase in
-    taken (judged contents_due (state_of old) (left c.args.reader.now)) (line_number c.args.reader.now) (contents_line e) old new (Contents c.args.count) tt is c.requires.phase
-    (entry_step p q old.opened c.args.count c.after_entry-self.result e c.requires.sound.good ph (judged_fits contents_due (state_of old) (left c.args.reader.now) (contents_line e) is) refl
+    taken (item_or_fault contents_due (state_of old) (left c.args.reader.now)) (line_number c.args.reader.now) (contents_line e) old new (Contents c.args.count) tt is c.requires.phase
+    (entry_step p q old.opened c.args.count c.after_entry-self.result e c.requires.sound.good ph (item_fits contents_due (state_of old) (left c.args.reader.now) (contents_line e) is) refl
     (entry_pushed c.push.result (entries p.contents) (entries c.push.new.self) e c.args.count c.push.ensures.value c.push.ensures.items ph.0 ph.1)
     c.after_entry-self.ensures
     (λ k. same_rows p q refl refl refl refl refl refl k) (subst (Bare p) c.requires.phase c.requires.sound.bare))
