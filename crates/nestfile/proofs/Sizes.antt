@@ -1,6 +1,7 @@
 -- The atoms of a problem's books, and which nests are there. Assumes nothing.
-use Rattle.std.proofs.Common.{◌≡◌, Bool, true, false, ◌||◌, List, [], ◌∷◌, map, Option, Some, None, is_some, refl, sym, ap, subst, ◌∙◌, ⊎_elim}
+use Rattle.std.proofs.Common.{◌≡◌, Bool, true, false, ◌||◌, List, [], ◌∷◌, map, Option, Some, None, is_some, IfSome, Bor, refl, sym, ap, subst, ◌∙◌, ⊎_elim}
 use Rattle.std.specs.List.{AllByRecursion}
+use Rattle.std.specs.Option.{option_copied}
 use Rattle.std.proofs.lemmas.Bool.{both_ways, cases_Bool, and_from, and_parts, or_from, eq-eqb, eqb-true}
 use Rattle.tables.specs.Items.{entries}
 use Rattle.nestformat.specs.declared.kinds.BodyKind.{BodyKind}
@@ -85,3 +86,8 @@ nest_told p w b = there p Nest p.nest refl refl w b ∙ ap (listed Nest) (sym (c
 
 pub below_told : (p : Parts) → whole start (items_of (problem_of p)) ≡ true → bare p ≡ true → is_some p.below ≡ listed Below (contents_of (problem_of p).bodies)
 below_told p w b = there p Below p.below refl refl w b ∙ ap (listed Below) (sym (contents_back p (entries p.contents)))
+
+-- what is right of a nest is right of what is lent of it
+pub lent : (P : Option NestBody → Type 0) (r : Option (Bor NestBody)) (o : Option NestBody) → option_copied r ≡ o → P o → IfSome r (λ b. P (Some b.now))
+lent P None o h x = tt
+lent P (Some b) o h x = subst P (sym h) x
