@@ -11,7 +11,7 @@ use Rattle.nested.specs.Nests.{nest_means}
 use Rattle.nested.specs.NestLaws.{stalls_is, stalls_has}
 use Rattle.nestformat.specs.declared.kinds.BodyKind.TheVariants.{Nest, Loop, Milliamperes, Lines}
 use Rattle.nestformat.specs.Items.{Body, Problem}
-use Rattle.finder.specs.Bodies.{body_at, rows_at}
+use Rattle.nestformat.specs.Bodies.{body_at, rows_at}
 use Rattle.finder.specs.Meanings.{plan_with, plan_in, below_means, nests_mean, arc_in, loop_means, loads_in, milliamperes, lowest_lines, milliamperes_mean, lines_mean, file_means}
 use Rattle.finder.specs.Vetoed.{NestVetoes, LoadVetoes, Vetoed}
 
@@ -26,7 +26,7 @@ load_decides join over limit (Some x) q = (λ h. h, λ h. h)
 file_decides : (p : Problem) (q : List ℕ) → Decides ((file_means p).speaks q) (Vetoed p q)
 file_decides p q =
     Decides-or ((nests_mean p).speaks q) _ (nest_decides (body_at Nest p.bodies) (below_means p) q)
-    (Decides-or ((loop_means p).speaks q) _ (cyclic_decides (map arc_in (rows_at Loop p)) q)
+    (Decides-or ((loop_means p).speaks q) _ (cyclic_decides (map arc_in (rows_at Loop p.bodies)) q)
     (Decides-or ((milliamperes_mean p).speaks q) ((lines_mean p).speaks q)
     (load_decides sum more milliamperes (body_at Milliamperes p.bodies) q)
     (load_decides union wider lowest_lines (body_at Lines p.bodies) q)))

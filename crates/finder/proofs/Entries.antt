@@ -1,5 +1,5 @@
 -- What is known of a body by its contents line, in a problem of the code. Assumes nothing.
-use Rattle.std.proofs.Common.{◌≡◌, ℕ, ◌+◌, ◌≤◌, Bool, true, false, cond, ◌&&◌, nat_le, List, [], ◌∷◌, map, ℤ, Option, Some, None, sym, refl, ap, ◌∙◌, subst, ⊎_elim, arith}
+use Rattle.std.proofs.Common.{◌≡◌, ℕ, ◌+◌, ◌≤◌, Bool, true, false, cond, ◌&&◌, ◌||◌, nat_le, List, [], ◌∷◌, map, ℤ, Option, Some, None, sym, refl, ap, ◌∙◌, subst, ⊎_elim, arith}
 use Rattle.std.specs.List.{list_all}
 use Rattle.std.proofs.lemmas.Bool.{and_from, and_parts, cond-true, cond-false, cases_Bool, leb-true}
 use Rattle.assignments.specs.Limits.{atom_limit}
@@ -10,14 +10,15 @@ use Rattle.nestformat.specs.declared.kinds.Contents.{Contents}
 use Rattle.nestformat.specs.Limits.{within}
 use Rattle.nestformat.specs.Kinds.{same_kind, has_clauses, atoms_in, in_ranges, size_range, own_range, rows_range}
 use Rattle.nestformat.specs.Items.{Body, contents_of}
-use Rattle.nestformat.specs.Due.{atoms_at}
+use Rattle.nestformat.specs.Bodies.{body_at, rows_at}
+use Rattle.nestformat.specs.Due.{listed, atoms_at}
 use Rattle.finder.proofs.KindLaws.{same_kind_is}
 use Rattle.nestfile.specs.declared.Parts.{Parts}
 use Rattle.nestfile.specs.declared.Problem.{Problem as Held}
 use Rattle.nestfile.specs.Bodies.{rows_of, body_of}
 use Rattle.nestfile.specs.Problems.{told}
-use Rattle.nestfile.proofs.Listing.{contents_back}
-use Rattle.finder.specs.Bodies.{entry_at, body_at}
+use Rattle.nestfile.proofs.Listing.{contents_back, rows_told}
+use Rattle.finder.specs.Bodies.{entry_at}
 use Rattle.finder.proofs.Wholes.{right_kind, right_body, Right, problem_read}
 
 -- of a list of contents
@@ -44,6 +45,14 @@ entry_all P k (x ∷ es) e a h =
     (λ (f : same_kind k x.kind ≡ false). entry_all P k es e p.1 (sym (cond-false (same_kind k x.kind) (Some x) (entry_at k es) f) ∙ h))
     (cases_Bool (same_kind k x.kind))
 
+pub entry_listed : (k : BodyKind) (es : List Contents) (e : Contents) → entry_at k es ≡ Some e → listed k es ≡ true
+entry_listed k [] e h = cc
+entry_listed k (x ∷ es) e h = step (same_kind k x.kind) (listed k es) (entry_at k es) (entry_listed k es e) h
+  where
+    step : (b l : Bool) (o : Option Contents) → (o ≡ Some e → l ≡ true) → cond b (Some x) o ≡ Some e → (b || l) ≡ true
+    step true l o more h = refl
+    step false l o more h = more h
+
 abbrev atoms_by : Option Contents → ℕ
 atoms_by None = 0
 atoms_by (Some e) = atoms_in e
@@ -59,15 +68,9 @@ atoms_is k (x ∷ es) = step (same_kind k x.kind) (atoms_at k es) (entry_at k es
 pub atoms_there : (k : BodyKind) (es : List Contents) (e : Contents) → entry_at k es ≡ Some e → atoms_at k es ≡ atoms_in e
 atoms_there k es e h = atoms_is k es ∙ ap atoms_by h
 
-pub atoms_none : (k : BodyKind) (es : List Contents) → entry_at k es ≡ None → atoms_at k es ≡ 0
-atoms_none k es h = atoms_is k es ∙ ap atoms_by h
-
 -- the atoms of a body of clauses
 pub atoms_sum : (k : BodyKind) (e : Contents) → k ≡ e.kind → has_clauses k ≡ true → atoms_in e ≡ e.size + e.own
 atoms_sum k e q h = cond-true (has_clauses e.kind) (e.size + e.own) 0 (subst (λ x. has_clauses x ≡ true) q h)
-
-pub outer_some : (es : List Contents) (e : Contents) → entry_at Outer es ≡ Some e → atoms_at Outer es ≡ e.size + e.own
-outer_some es e h = atoms_there Outer es e h ∙ atoms_sum Outer e (entry_kind Outer es e h) refl
 
 pub atoms_few : (e : Contents) → in_ranges e ≡ true → atoms_in e ≤ atom_limit
 atoms_few e h =
@@ -109,8 +112,8 @@ contents_told h = contents_of (told h).bodies
 pub record Entry (h : Held) (k : BodyKind) (e : Contents) : Type 0 where
   pub kind : k ≡ e.kind
   pub ranged : in_ranges e ≡ true
-  pub right : right_kind e (contents_told h) (rows_of h.parts k) ≡ true
-  pub body : body_at k (told h).bodies ≡ Some (record { contents = e; rows = rows_of h.parts k })
+  pub right : right_kind e (contents_told h) (rows_at k (told h).bodies) ≡ true
+  pub body : body_at k (told h).bodies ≡ Some (record { contents = e; rows = rows_at k (told h).bodies })
 
 pub right_told : (h : Held) → Right (told h).bodies
 right_told h = problem_read h.parts.map (map (body_of h.parts) (entries h.parts.contents)) h.whole
@@ -124,11 +127,12 @@ entry_told h k e there =
     let kind = entry_kind k es e here in
     let right = entry_all (λ x. right_body (contents_told h) (body_of p x)) k es e (all_map (body_of p) (right_body (contents_told h)) es all.bodies) here in
     let make : List (List ℤ) → Body = λ (rs : List (List ℤ)). record { contents = e; rows = rs } in
+    let is : rows_of p e.kind ≡ rows_at k (told h).bodies = ap (rows_of p) (sym kind) ∙ sym (rows_told p k h.bare) in
     record {
       kind = kind;
       ranged = entry_all in_ranges k (contents_told h) e all.ranges there;
-      right = subst (λ x. right_kind e (contents_told h) (rows_of p x) ≡ true) (sym kind) right;
-      body = body_is p k es ∙ ap (bodied p) here ∙ ap (λ x. Some (make (rows_of p x))) (sym kind);
+      right = subst (λ rs. right_kind e (contents_told h) rs ≡ true) is right;
+      body = body_is p k es ∙ ap (bodied p) here ∙ ap (λ rs. Some (make rs)) is;
     }
 
 pub entry_missing : (h : Held) (k : BodyKind) → entry_at k (contents_told h) ≡ None → body_at k (told h).bodies ≡ None

@@ -21,18 +21,19 @@ use Rattle.nestformat.specs.declared.kinds.Contents.{Contents}
 use Rattle.nestformat.specs.Kinds.{has_clauses, has_map, atoms_in, size_range, own_range, rows_range}
 use Rattle.nestformat.specs.Limits.{line_limit, within}
 use Rattle.nestformat.specs.Items.{Body}
-use Rattle.nestformat.specs.Due.{row_due, map_due, is_atom, first_is_atom, in_row, unless_out, atoms_at, host_of, natural, well_formed, map_refusal, row_refusal}
+use Rattle.nestformat.specs.Bodies.{body_at, rows_at}
+use Rattle.nestformat.specs.Due.{row_due, map_due, is_atom, first_is_atom, in_row, unless_out, listed, atoms_at, host_of, natural, well_formed, map_refusal, row_refusal}
 use Rattle.nestfile.specs.declared.NestBody.{NestBody}
 use Rattle.nestfile.specs.declared.Problem.{Problem as Held}
 use Rattle.nestfile.specs.Rows.{arc_numbers, load_numbers}
-use Rattle.nestfile.specs.Bodies.{rows_of, nest_rows}
-use Rattle.nestfile.specs.Problems.{told, nest_of, below_of, outer_of, arcs_of, milliamperes_of, lines_of}
+use Rattle.nestfile.specs.Bodies.{nest_rows}
+use Rattle.nestfile.specs.Problems.{told}
 use Rattle.vetoes.specs.Meaning.{silent}
-use Rattle.finder.specs.Bodies.{entry_at, body_at, rows_of as in_body, atoms_of, clauses_of as clauses_held}
+use Rattle.finder.specs.Bodies.{entry_at, atoms_of, clauses_of as clauses_held}
 use Rattle.finder.specs.Meanings.{plan_in, below_means, arc_in, load_in, loads_in}
 use Rattle.finder.specs.Fitting.{fit, with_all}
 use Rattle.finder.proofs.Wholes.{right_rows, right_map, right_mapped, right_kind}
-use Rattle.finder.proofs.Entries.{contents_told, Entry, entry_told, entry_missing, right_told, atoms_there, atoms_sum, atoms_few, atoms_told_few}
+use Rattle.finder.proofs.Entries.{contents_told, entry_listed, Entry, entry_told, entry_missing, right_told, atoms_there, atoms_sum, atoms_few, atoms_told_few}
 use Rattle.finder.proofs.Reaches.{not_out, nest_by}
 
 -- numbers, arcs and loads from their rows
@@ -98,14 +99,14 @@ pub record Described (o : Option Body) (r : ℕ) (m : List ℕ) (own : ℕ) (cs 
   pub fits : fit (length m + own) [] cs ≡ true
   pub plan : plan_in o ≡ Some (with_all m own cs)
 
-described : (h : Held) (k : BodyKind) (e : Contents) (b : NestBody) (r : ℕ) → has_map k ≡ true → has_clauses k ≡ true → Entry h k e → rows_of h.parts k ≡ nest_rows (Some b) → r ≤ atoms_in e → Described (body_at k (told h).bodies) r (entries b.map) e.own (clauses_of b.book)
+described : (h : Held) (k : BodyKind) (e : Contents) (b : NestBody) (r : ℕ) → has_map k ≡ true → has_clauses k ≡ true → Entry h k e → nest_rows (Some b) ≡ rows_at k (told h).bodies → r ≤ atoms_in e → Described (body_at k (told h).bodies) r (entries b.map) e.own (clauses_of b.book)
 described h k e b r mapped claused x rows low =
     let es = contents_told h in
     let m = entries b.map in
     let cs = clauses_of b.book in
     let map_kind : has_map e.kind ≡ true = subst (λ j. has_map j ≡ true) x.kind mapped in
     let clause_kind : has_clauses e.kind ≡ true = subst (λ j. has_clauses j ≡ true) x.kind claused in
-    let all : right_kind e es (map pos m ∷ cs) ≡ true = subst (λ rs. right_kind e es rs ≡ true) rows x.right in
+    let all : right_kind e es (map pos m ∷ cs) ≡ true = subst (λ rs. right_kind e es rs ≡ true) (sym rows) x.right in
     let right : right_mapped e es (map pos m ∷ cs) ≡ true = sym (cond-true (has_map e.kind) (right_mapped e es (map pos m ∷ cs)) (right_rows e es [] (map pos m ∷ cs)) map_kind) ∙ all in
     let p = and_parts (right_map e es (map pos m)) (right_rows e es [] cs) right in
     let q = and_parts (well_formed (map_due e) (map pos m)) (is_none (map_refusal e es (map pos m))) p.0 in
@@ -120,68 +121,41 @@ described h k e b r mapped claused x rows low =
     record {
       shape = shaping_fits r e.own m (omega arith) (omega arith) each;
       fits = subst (λ n. fit n [] cs ≡ true) count (clauses_fit e es clause_kind cs [] p.1);
-      plan = ap plan_in (x.body ∙ ap (λ rs. Some (make rs)) rows) ∙ ap (λ l. Some (with_all l e.own cs)) (naturals_back m);
+      plan = ap plan_in (x.body ∙ ap (λ rs. Some (make rs)) (sym rows)) ∙ ap (λ l. Some (with_all l e.own cs)) (naturals_back m);
     }
 
--- a nest that the contents name is there
-there_is : (h : Held) (k : BodyKind) (e : Contents) → has_map k ≡ true → Entry h k e → rows_of h.parts k ≡ [] → ⊥
-there_is h k e mapped x none =
-    let es = contents_told h in
-    let map_kind : has_map e.kind ≡ true = subst (λ j. has_map j ≡ true) x.kind mapped in
-    let all : right_kind e es [] ≡ true = subst (λ rs. right_kind e es rs ≡ true) none x.right in
-    both_ways false refl (sym (cond-true (has_map e.kind) false (right_rows e es [] []) map_kind) ∙ all)
-
 module _ (h : Held) where
-  pub below_described : (e : Contents) (b : NestBody) → entry_at Below (contents_told h) ≡ Some e → below_of h ≡ Some b → Described (body_at Below (told h).bodies) 0 (entries b.map) e.own (clauses_of b.book)
-  below_described e b q there = described h Below e b 0 refl refl (entry_told h Below e q) (ap nest_rows there) (omega arith)
+  pub below_described : (e : Contents) (b : NestBody) → entry_at Below (contents_told h) ≡ Some e → nest_rows (Some b) ≡ rows_at Below (told h).bodies → Described (body_at Below (told h).bodies) 0 (entries b.map) e.own (clauses_of b.book)
+  below_described e b q rows = described h Below e b 0 refl refl (entry_told h Below e q) rows (omega arith)
 
-  pub nest_described : (e : Contents) (b : NestBody) → entry_at Nest (contents_told h) ≡ Some e → nest_of h ≡ Some b → Described (body_at Nest (told h).bodies) (below_means (told h)).reach (entries b.map) e.own (clauses_of b.book)
-  nest_described e b q there =
+  pub nest_described : (e : Contents) (b : NestBody) → entry_at Nest (contents_told h) ≡ Some e → nest_rows (Some b) ≡ rows_at Nest (told h).bodies → Described (body_at Nest (told h).bodies) (below_means (told h)).reach (entries b.map) e.own (clauses_of b.book)
+  nest_described e b q rows =
       let far = nest_by h Below silent refl (entry_at Below (contents_told h)) refl in
       let atoms = atoms_there Nest (contents_told h) e q in
-      described h Nest e b (below_means (told h)).reach refl refl (entry_told h Nest e q) (ap nest_rows there) (subst (λ n. (below_means (told h)).reach ≤ n) atoms far)
+      described h Nest e b (below_means (told h)).reach refl refl (entry_told h Nest e q) rows (subst (λ n. (below_means (told h)).reach ≤ n) atoms far)
 
-  pub below_there : (e : Contents) → entry_at Below (contents_told h) ≡ Some e → below_of h ≡ None → ⊥
-  below_there e q none = there_is h Below e refl (entry_told h Below e q) (ap nest_rows none)
+  -- a nest that the contents name is there
+  pub named : (k : BodyKind) (e : Contents) → entry_at k (contents_told h) ≡ Some e → false ≡ listed k (contents_told h) → ⊥
+  named k e q none = both_ways (listed k (contents_told h)) (sym none) (entry_listed k (contents_told h) e q)
 
-  pub nest_there : (e : Contents) → entry_at Nest (contents_told h) ≡ Some e → nest_of h ≡ None → ⊥
-  nest_there e q none = there_is h Nest e refl (entry_told h Nest e q) (ap nest_rows none)
-
-  -- the arcs and the loads of the code are those of the file
-
-  pub arcs_told : (e : Contents) → entry_at Loop (contents_told h) ≡ Some e → map arc_in (in_body (body_at Loop (told h).bodies)) ≡ arcs_of h
-  arcs_told e q = ap (λ o. map arc_in (in_body o)) (entry_told h Loop e q).body ∙ arcs_back (arcs_of h)
-
-  pub no_arcs : entry_at Loop (contents_told h) ≡ None → map arc_in (in_body (body_at Loop (told h).bodies)) ≡ []
-  no_arcs q = ap (λ o. map arc_in (in_body o)) (entry_missing h Loop q)
-
-  pub milliamperes_told : (f : ℕ → ℕ) (e : Contents) → entry_at Milliamperes (contents_told h) ≡ Some e → loads_in f (body_at Milliamperes (told h).bodies) ≡ record { atom = 0; load = f e.size } ∷ milliamperes_of h
-  milliamperes_told f e q =
+  -- the loads of the code are those of the file, after the limit
+  pub loads_told : (k : BodyKind) (f : ℕ → ℕ) (e : Contents) (ys : List (Row ℕ)) → entry_at k (contents_told h) ≡ Some e → map load_numbers ys ≡ rows_at k (told h).bodies → loads_in f (body_at k (told h).bodies) ≡ record { atom = 0; load = f e.size } ∷ ys
+  loads_told k f e ys q rows =
       let limit : Row ℕ = record { atom = 0; load = f e.size } in
-      ap (loads_in f) (entry_told h Milliamperes e q).body ∙ ap (λ l. limit ∷ l) (loads_back (milliamperes_of h))
-
-  pub lines_told : (f : ℕ → ℕ) (e : Contents) → entry_at Lines (contents_told h) ≡ Some e → loads_in f (body_at Lines (told h).bodies) ≡ record { atom = 0; load = f e.size } ∷ lines_of h
-  lines_told f e q =
-      let limit : Row ℕ = record { atom = 0; load = f e.size } in
-      ap (loads_in f) (entry_told h Lines e q).body ∙ ap (λ l. limit ∷ l) (loads_back (lines_of h))
+      ap (loads_in f) (entry_told h k e q).body ∙ ap (λ l. limit ∷ map load_in l) (sym rows) ∙ ap (λ l. limit ∷ l) (loads_back ys)
 
   pub no_loads : (f : ℕ → ℕ) (k : BodyKind) → entry_at k (contents_told h) ≡ None → loads_in f (body_at k (told h).bodies) ≡ []
   no_loads f k q = ap (loads_in f) (entry_missing h k q)
 
   -- the clauses held
 
-  pub held_told : clauses_held (told h) ≡ clauses_of (outer_of h)
-  held_told =
-      let all = right_told h in
-      ap in_body (entry_told h Outer all.outer all.first).body
-
-  pub held_fit : fit (atoms_of (told h)) [] (clauses_of (outer_of h)) ≡ true
+  pub held_fit : fit (atoms_of (told h)) [] (clauses_held (told h)) ≡ true
   held_fit =
       let es = contents_told h in
       let all = right_told h in
       let e = all.outer in
       let x = entry_told h Outer e all.first in
-      let cs = clauses_of (outer_of h) in
+      let cs = clauses_held (told h) in
       let no_map : has_map e.kind ≡ false = subst (λ j. has_map j ≡ false) x.kind refl in
       let claused : has_clauses e.kind ≡ true = subst (λ j. has_clauses j ≡ true) x.kind refl in
       let right : right_rows e es [] cs ≡ true = sym (cond-false (has_map e.kind) (right_mapped e es cs) (right_rows e es [] cs) no_map) ∙ x.right in

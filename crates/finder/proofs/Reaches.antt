@@ -13,11 +13,11 @@ use Rattle.nestformat.specs.declared.kinds.BodyKind.{BodyKind}
 use Rattle.nestformat.specs.declared.kinds.BodyKind.TheVariants.{Outer, Nest, Loop, Milliamperes, Lines}
 use Rattle.nestformat.specs.declared.kinds.Contents.{Contents}
 use Rattle.nestformat.specs.Kinds.{has_clauses, has_map, atoms_in}
+use Rattle.nestformat.specs.Bodies.{body_at, rows_in, rows_at}
 use Rattle.nestformat.specs.Due.{row_due, map_due, is_atom, first_is_atom, unless_out, atoms_at, host_of, natural, well_formed, map_refusal, row_refusal}
 use Rattle.nestfile.specs.declared.Problem.{Problem as Held}
-use Rattle.nestfile.specs.Bodies.{rows_of}
 use Rattle.nestfile.specs.Problems.{told}
-use Rattle.finder.specs.Bodies.{entry_at, body_at, rows_of as in_body, atoms_of}
+use Rattle.finder.specs.Bodies.{entry_at, atoms_of}
 use Rattle.finder.specs.Meanings.{plan_with, plan_in, below_means, nests_mean, arc_in, loop_means, load_in, loads_in, milliamperes, lowest_lines, milliamperes_mean, lines_mean, file_means}
 use Rattle.finder.proofs.Wholes.{right_rows, right_map, right_mapped}
 use Rattle.finder.proofs.Entries.{contents_told, Entry, entry_told, entry_missing}
@@ -80,26 +80,26 @@ module _ (h : Held) where
   abbrev outside : ℕ
   outside = atoms_at Outer (contents_told h)
 
-  plain_rows : (k : BodyKind) (e : Contents) → has_map k ≡ false → has_clauses k ≡ false → Entry h k e → list_all (first_is_atom outside) (rows_of h.parts k) ≡ true
+  plain_rows : (k : BodyKind) (e : Contents) → has_map k ≡ false → has_clauses k ≡ false → Entry h k e → list_all (first_is_atom outside) (rows_at k (told h).bodies) ≡ true
   plain_rows k e m c x =
-      let rs = rows_of h.parts k in
+      let rs = rows_at k (told h).bodies in
       let no_map : has_map e.kind ≡ false = subst (λ j. has_map j ≡ false) x.kind m in
       let no_clauses : has_clauses e.kind ≡ false = subst (λ j. has_clauses j ≡ false) x.kind c in
       atoms_right e (contents_told h) no_clauses rs [] (sym (cond-false (has_map e.kind) (right_mapped e (contents_told h) rs) (right_rows e (contents_told h) [] rs) no_map) ∙ x.right)
 
   loop_by : (o : Option Contents) → entry_at Loop (contents_told h) ≡ o → (loop_means (told h)).reach ≤ outside
-  loop_by None q = let b = entry_missing h Loop q in subst (λ x. highest_of counted_arc (map arc_in (in_body x)) ≤ outside) (sym b) (omega arith)
+  loop_by None q = let b = entry_missing h Loop q in subst (λ x. highest_of counted_arc (map arc_in (rows_in x)) ≤ outside) (sym b) (omega arith)
   loop_by (Some e) q =
       let x = entry_told h Loop e q in
-      subst (λ y. highest_of counted_arc (map arc_in (in_body y)) ≤ outside) (sym x.body)
-      (highest_rows counted_arc arc_in outside (arc_few outside) (rows_of h.parts Loop) (plain_rows Loop e refl refl x))
+      subst (λ y. highest_of counted_arc (map arc_in (rows_in y)) ≤ outside) (sym x.body)
+      (highest_rows counted_arc arc_in outside (arc_few outside) (rows_at Loop (told h).bodies) (plain_rows Loop e refl refl x))
 
   loads_by : (k : BodyKind) (limit : ℕ → ℕ) → has_map k ≡ false → has_clauses k ≡ false → (o : Option Contents) → entry_at k (contents_told h) ≡ o → highest_of counted_row (later (loads_in limit (body_at k (told h).bodies))) ≤ outside
   loads_by k limit m c None q = let b = entry_missing h k q in subst (λ x. highest_of counted_row (later (loads_in limit x)) ≤ outside) (sym b) (omega arith)
   loads_by k limit m c (Some e) q =
       let x = entry_told h k e q in
       subst (λ y. highest_of counted_row (later (loads_in limit y)) ≤ outside) (sym x.body)
-      (highest_rows counted_row load_in outside (load_few outside) (rows_of h.parts k) (plain_rows k e m c x))
+      (highest_rows counted_row load_in outside (load_few outside) (rows_at k (told h).bodies) (plain_rows k e m c x))
 
   -- a nest reaches no further than its host has atoms
   mapped_reach : (e : Contents) (b : Meaning) (rs : List (List ℤ)) → right_mapped e (contents_told h) rs ≡ true → (nest_means (Some (plan_with e.own rs)) b).reach ≤ atoms_at (host_of e.kind) (contents_told h)
@@ -114,7 +114,7 @@ module _ (h : Held) where
   nest_by k b m None q = let y = entry_missing h k q in subst (λ x. (nest_means (plan_in x) b).reach ≤ atoms_at (host_of k) (contents_told h)) (sym y) (omega arith)
   nest_by k b m (Some e) q =
       let x = entry_told h k e q in
-      let rs = rows_of h.parts k in
+      let rs = rows_at k (told h).bodies in
       let mapped : has_map e.kind ≡ true = subst (λ j. has_map j ≡ true) x.kind m in
       let right = sym (cond-true (has_map e.kind) (right_mapped e (contents_told h) rs) (right_rows e (contents_told h) [] rs) mapped) ∙ x.right in
       subst (λ y. (nest_means (plan_in y) b).reach ≤ atoms_at (host_of k) (contents_told h)) (sym x.body)

@@ -13,7 +13,8 @@ use Rattle.nested.specs.Nests.{Plan, nest_means}
 use Rattle.nestformat.specs.declared.kinds.BodyKind.TheVariants.{Nest, Below, Loop, Milliamperes, Lines}
 use Rattle.nestformat.specs.Items.{Body, Problem}
 use Rattle.nestformat.specs.Due.{natural}
-use Rattle.finder.specs.Bodies.{body_at, rows_at, atoms_of, clauses_of}
+use Rattle.nestformat.specs.Bodies.{body_at, rows_at}
+use Rattle.finder.specs.Bodies.{atoms_of, clauses_of}
 
 -- a nest's first row is its map, the others are its clauses; the second number of its contents line counts its own atoms
 abbrev pub plan_with : ℕ → List (List ℤ) → Plan
@@ -37,7 +38,7 @@ arc_in (atom ∷ from ∷ to ∷ []) = record { atom = natural atom; from = natu
 arc_in _ = no_arc
 
 abbrev pub loop_means : Problem → Meaning
-loop_means p = cycle_means (map arc_in (rows_at Loop p))
+loop_means p = cycle_means (map arc_in (rows_at Loop p.bodies))
 
 abbrev pub no_load : Row ℕ
 no_load = record { atom = 0; load = 0 }

@@ -7,7 +7,7 @@ use Rattle.loads.specs.Rows.{total}
 use Rattle.nested.specs.Nests.{Stalls}
 use Rattle.nestformat.specs.declared.kinds.BodyKind.TheVariants.{Nest, Loop, Milliamperes, Lines}
 use Rattle.nestformat.specs.Items.{Body, Problem}
-use Rattle.finder.specs.Bodies.{body_at, rows_at}
+use Rattle.nestformat.specs.Bodies.{body_at, rows_at}
 use Rattle.finder.specs.Meanings.{plan_with, below_means, arc_in, load_in, milliamperes, lowest_lines}
 
 -- the nest over the veto b: every seen atom that b looks at is known, and the own atoms can be given values so that every
@@ -18,7 +18,7 @@ NestVetoes (Some x) b q = Stalls (plan_with x.contents.own x.rows) b q
 
 -- the arcs with true atoms contain a closed chain
 abbrev pub LoopVetoes : Problem → List ℕ → Type 0
-LoopVetoes p q = Closed (map arc_in (rows_at Loop p)) q
+LoopVetoes p q = Closed (map arc_in (rows_at Loop p.bodies)) q
 
 -- the joined loads of the rows with true atoms are over the limit
 abbrev pub LoadVetoes : (ℕ → ℕ → ℕ) → (ℕ → ℕ → Bool) → (ℕ → ℕ) → Option Body → List ℕ → Type 0

@@ -1,6 +1,5 @@
 // What the contents of a problem say of a body.
 ghost use Rattle.std.specs.Prelude.{◌≡◌};
-ghost use Rattle.nestformat.specs.Due.{atoms_at};
 ghost use Rattle.finder.specs.Bodies.{entry_at};
 
 use nestformat::kinds::{BodyKind, Contents};
@@ -15,15 +14,4 @@ pub(crate) fn entry_of(contents: &[Contents], kind: BodyKind) -> Option<Contents
         }
     }
     None
-}
-
-// The atoms of the outer body.
-#[tactic(auto, using(crate::proofs::Entries::outer_some, crate::proofs::Entries::atoms_none))]
-pub(crate) fn outer_atoms(contents: &[Contents]) -> usize
-    ensures { result ≡ atoms_at BodyKind.Outer contents.now }
-{
-    match entry_of(contents, BodyKind::Outer) {
-        Some(entry) => entry.size as usize + entry.own as usize,
-        None => 0,
-    }
 }

@@ -9,7 +9,6 @@ ghost use Rattle.finder.specs.Fitting.{fit};
 ghost use Rattle.finder.specs.Meanings.{file_means, AdmittedBy};
 ghost use Rattle.finder.specs.Sessions.{started, file_ledger};
 
-use crate::contents::outer_atoms;
 use crate::veto::{FileVeto, veto_of};
 use clauses::book::ClauseBook;
 use nestfile::Problem;
@@ -53,6 +52,6 @@ pub fn session_of(problem: &Problem) -> Session<FileVeto>
     ensures stands { Stands result.table (file_ledger (told problem.now)) }
     ensures admits { (q : List ℕ) → Admitted (⟦<FileVeto as Veto>⟧.means result.veto) (file_ledger (told problem.now)) q ↔ AdmittedBy (told problem.now) q }
 {
-    let atoms = outer_atoms(problem.contents());
-    holding(veto_of(problem), atoms, problem.outer())
+    let held = problem.outer();
+    holding(veto_of(problem), held.atoms(), held)
 }

@@ -50,9 +50,6 @@ fn loop_of(problem: &Problem) -> LoopVeto
         from: 0,
         to: 0,
     };
-    let Some(_) = entry_of(problem.contents(), BodyKind::Loop) else {
-        return Cycle::new(Owned::empty(none));
-    };
     Cycle::new(Owned::copied(none, problem.arcs()))
 }
 

@@ -1,5 +1,6 @@
 pub mod RangeLaws
 pub mod Listing
+pub mod Sizes
 pub mod Orders
 pub mod Places
 pub mod KindLaws

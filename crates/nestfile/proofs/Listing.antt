@@ -1,5 +1,5 @@
 -- The contents of a problem, and the empty problem. Assumes nothing.
-use Rattle.std.proofs.Common.{◌≡◌, ℕ, ℤ, Bool, List, [], ◌∷◌, ◌||◌, map, true, false, refl, sym, ap, ap₂, subst, ◌∙◌, ⊎_elim}
+use Rattle.std.proofs.Common.{◌≡◌, ℕ, ℤ, Bool, List, [], ◌∷◌, ◌||◌, map, true, false, Some, refl, sym, ap, ap₂, subst, ◌∙◌, ⊎_elim}
 use Rattle.std.proofs.lemmas.Bool.{both_ways, cases_Bool, cond-true, cond-false, and_from, and_parts, or_left, or_right, or_from}
 use Rattle.tables.specs.Items.{entries}
 use Rattle.nestformat.specs.declared.kinds.BodyKind.{BodyKind}
@@ -8,10 +8,11 @@ use Rattle.nestformat.specs.Kinds.{same_kind}
 use Rattle.nestfile.proofs.KindLaws.{same_kind_is}
 use Rattle.nestformat.specs.declared.kinds.Contents.{Contents}
 use Rattle.nestformat.specs.Items.{Body, Problem, contents_of, items_of}
+use Rattle.nestformat.specs.Bodies.{body_at, rows_in, rows_at}
 use Rattle.nestformat.specs.Due.{start, listed}
 use Rattle.nestformat.specs.Reading.{whole}
 use Rattle.nestfile.specs.declared.Parts.{Parts}
-use Rattle.nestfile.specs.Bodies.{rows_of, body_of, problem_of, rows_at, has_none, bare_at, bare}
+use Rattle.nestfile.specs.Bodies.{rows_of, body_of, problem_of, has_none, bare_at, bare}
 use Rattle.nestfile.specs.Problems.{empty_problem}
 
 pub contents_back : (p : Parts) (es : List Contents) → contents_of (map (body_of p) es) ≡ es
@@ -56,13 +57,17 @@ bare_there p Loop h = (and_parts (bare_at Loop p) _ (and_parts (bare_at Below p)
 bare_there p Milliamperes h = (and_parts (bare_at Milliamperes p) (bare_at Lines p) (and_parts (bare_at Loop p) _ (and_parts (bare_at Below p) _ (and_parts (bare_at Nest p) _ (and_parts (bare_at Outer p) _ h).1).1).1).1).0
 bare_there p Lines h = (and_parts (bare_at Milliamperes p) (bare_at Lines p) (and_parts (bare_at Loop p) _ (and_parts (bare_at Below p) _ (and_parts (bare_at Nest p) _ (and_parts (bare_at Outer p) _ h).1).1).1).1).1
 
-rows_in : (p : Parts) (k : BodyKind) (es : List Contents) → (listed k es ≡ false → rows_of p k ≡ []) → rows_at k (map (body_of p) es) ≡ rows_of p k
-rows_in p k [] h = sym (h refl)
-rows_in p k (e ∷ es) h = ⊎_elim
-    (λ (t : same_kind k e.kind ≡ true). cond-true _ _ _ t ∙ ap (rows_of p) (sym (same_kind_is k e.kind t)))
-    (λ (f : same_kind k e.kind ≡ false). cond-false _ _ _ f ∙ rows_in p k es (λ l. h (or_from (same_kind k e.kind) (listed k es) f l)))
+-- a body that the contents do not name has no rows
+pub unlisted : (p : Parts) (k : BodyKind) → bare p ≡ true → listed k (entries p.contents) ≡ false → rows_of p k ≡ []
+unlisted p k h = no_rows (listed k (entries p.contents)) (rows_of p k) (bare_there p k h)
+
+rows_among : (p : Parts) (k : BodyKind) (es : List Contents) → (listed k es ≡ false → rows_of p k ≡ []) → rows_at k (map (body_of p) es) ≡ rows_of p k
+rows_among p k [] h = sym (h refl)
+rows_among p k (e ∷ es) h = ⊎_elim
+    (λ (t : same_kind k e.kind ≡ true). ap rows_in (cond-true (same_kind k e.kind) (Some (body_of p e)) (body_at k (map (body_of p) es)) t) ∙ ap (rows_of p) (sym (same_kind_is k e.kind t)))
+    (λ (f : same_kind k e.kind ≡ false). ap rows_in (cond-false (same_kind k e.kind) (Some (body_of p e)) (body_at k (map (body_of p) es)) f) ∙ rows_among p k es (λ l. h (or_from (same_kind k e.kind) (listed k es) f l)))
     (cases_Bool (same_kind k e.kind))
 
 -- the rows of a kind are those of its body in the problem
 pub rows_told : (p : Parts) (k : BodyKind) → bare p ≡ true → rows_at k (problem_of p).bodies ≡ rows_of p k
-rows_told p k h = rows_in p k (entries p.contents) (no_rows (listed k (entries p.contents)) (rows_of p k) (bare_there p k h))
+rows_told p k h = rows_among p k (entries p.contents) (unlisted p k h)

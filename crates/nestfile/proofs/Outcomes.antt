@@ -13,11 +13,11 @@ use Rattle.nestformat.specs.Laws.{Accepted, Faulty}
 use Rattle.nestformat.proofs.LawsStand.{whole_of, accepts, refuses}
 use Rattle.nestfile.specs.declared.Problem.{Problem as Held}
 use Rattle.nestfile.specs.declared.drafts.Draft.{Draft}
-use Rattle.nestfile.specs.Bodies.{problem_of, bare}
+use Rattle.nestfile.specs.Bodies.{problem_of, bare, sized}
 use Rattle.nestfile.specs.Problems.{told, empty_problem}
 use Rattle.nestfile.specs.Drafts.{state_of, items_in, Sound, Answered}
 use Rattle.nestfile.specs.Read.{ReadAs, IsRead}
-use Rattle.nestfile.proofs.Endings.{is_whole, bare_whole}
+use Rattle.nestfile.proofs.Endings.{is_whole, bare_whole, sized_whole}
 
 -- the lines of a text that is short enough are read from the first on
 begins : (t : List ℕ) (s : State) (n : ℕ) (ls : List (List ℕ)) → length t ≤ text_limit → s ≡ start → n ≡ 0 → ls ≡ lines t → reading t ≡ reading_from s (n + 1) ls
@@ -48,6 +48,9 @@ read_ok x t s n ls its d h a b c e r f g =
 
 pub bare_read : (d : Draft) → finished (state_of d).todo ≡ true → Sound d → bare d.parts ≡ true
 bare_read d f g = bare_whole d.parts d.opened d.phase nothing g.phase f g.bare
+
+pub sized_read : (d : Draft) → finished (state_of d).todo ≡ true → Sound d → sized d.parts ≡ true
+sized_read d f g = sized_whole d.parts d.opened d.phase nothing g.phase f g.sized
 
 pub whole_read : (t : List ℕ) (its : List Item) → reading t ≡ Ok its → whole start its ≡ true
 whole_read t its h = whole_of t its h

@@ -1,6 +1,6 @@
 -- What a draft stands for after one line more. Assumes nothing.
 use Rattle.std.proofs.Common.{◌≡◌, ◌⊎◌, inl, inr, nat_le, nat_lt, ℕ, zero, suc, ◌+◌, ◌-◌, ◌<◌, ◌≤◌, Bool, true, false, cond, not, ◌&&◌, List, [], ◌∷◌, ◌++◌, length, take, drop, get_or, map, ℤ, Ok, Err, Some, None, Option, Result, refl, sym, ap, ap₂, subst, ◌∙◌, ⊎_elim, arith, append_assoc, length-append, replicate}
-use Rattle.std.proofs.lemmas.Bool.{both_ways, cases_Bool, cases_lt, cond-true, cond-false, and_parts, or_parts, or_from, not-true, leb-true, lt-ltb, eqb-false, ne_eqb}
+use Rattle.std.proofs.lemmas.Bool.{both_ways, cases_Bool, cases_lt, cond-true, cond-false, and_parts, or_parts, or_from, not-true, leb-true, lt-ltb, eqb-false, ne_eqb, eq-eqb}
 use Rattle.std.proofs.lemmas.List.{append-nil, take_more, take-append-le, map-append, get_or_append_left, drop_all}
 use Rattle.std.proofs.lemmas.Grind.{flat_map-append}
 use Rattle.std.proofs.lemmas.List.Concat.{flat_map-cons}
@@ -17,7 +17,7 @@ use Rattle.nestformat.specs.declared.kinds.Contents.{Contents}
 use Rattle.nestformat.specs.declared.kinds.Heading.{Heading}
 use Rattle.nestformat.specs.Limits.{body_limit, within, from_to}
 use Rattle.nestformat.specs.Faults.{plain, told_at}
-use Rattle.nestformat.specs.Kinds.{letter_of, same_kind, has_map, atoms_in, in_ranges, size_range, own_range, rows_range}
+use Rattle.nestformat.specs.Kinds.{letter_of, same_kind, has_map, atoms_in, in_ranges, size_range, own_range, rows_range, has_clauses}
 use Rattle.nestformat.specs.Items.{Item, heading_line, contents_line, body_line, row_line, body_items}
 use Rattle.nestformat.specs.Due.{Slot, heading_due, contents_due, body_due, map_due, row_due, end_due, State, advance, clauses_with, due, bodies_due, rows_due, or_bodies, listed, in_order, atoms_at, is_map, fits_at, says, as_written}
 use Rattle.nestformat.specs.Reading.{number_places, wrong, judge, of_sort, fault_at}
@@ -27,6 +27,7 @@ use Rattle.nestfile.specs.declared.due.Due.{Due}
 use Rattle.nestfile.specs.declared.due.Due.TheVariants.{Heading as HeadingDue, Contents as ContentsDue, Body as BodyDue, Map as MapDue, Row as RowDue, End as EndDue}
 use Rattle.nestfile.specs.Tokens.{heading_told, opening_fault, placed}
 use Rattle.nestfile.specs.Entries.{contents_told}
+use Rattle.nestfile.proofs.KindLaws.{same_kind_is}
 use Rattle.nestfile.proofs.HeadingLines.{heading_judged}
 use Rattle.nestfile.proofs.EntryLines.{entry_judged}
 use Rattle.nestfile.proofs.OpeningLines.{opening_judged}
@@ -34,12 +35,12 @@ use Rattle.nestfile.specs.declared.Parts.{Parts}
 use Rattle.nestfile.specs.declared.drafts.Draft.{Draft}
 use Rattle.nestfile.specs.declared.drafts.Phase.{Phase}
 use Rattle.nestfile.specs.declared.drafts.Phase.TheVariants.{Heading as AtHeading, Contents as InContents, Bodies, Map, Rows}
-use Rattle.clauses.specs.Books.{clauses_of}
+use Rattle.clauses.specs.Books.{atoms_of, clauses_of}
 use Rattle.nestfile.specs.Rows.{arc_numbers, load_numbers}
-use Rattle.nestfile.specs.Bodies.{rows_of, clauses_in, body_of, nest_clauses, nest_rows, IsBegun, IsReady, Others}
+use Rattle.nestfile.specs.Bodies.{rows_of, clauses_in, body_of, nest_clauses, nest_rows, IsBegun, IsReady, Others, nest_atoms, book_atoms}
 use Rattle.nestfile.specs.LineItems.{item_or_fault, item_of_heading, item_of_entry, item_of_opening}
 use Rattle.std.specs.Option.{option_map}
-use Rattle.nestfile.specs.Drafts.{slot_of, slots, state_of, state_with, clauses_opened, bodies_items, items_to, items_with, EntriesLeft, RowsLeft, Good, Here, MapSound, RowsSound, PhaseSound, Bare, opened_in, LineTaken}
+use Rattle.nestfile.specs.Drafts.{slot_of, slots, state_of, state_with, clauses_opened, bodies_items, items_to, items_with, EntriesLeft, RowsLeft, Good, Here, MapSound, RowsSound, PhaseSound, Bare, opened_in, LineTaken, lacks_map, Sized}
 
 -- what is judged right fits
 ok_past : {A E : Type 0} (b : Bool) (e : E) (r : Result A E) (x : A) → cond b (Err e) r ≡ Ok x → r ≡ Ok x
@@ -69,11 +70,12 @@ pub record Step (it : Item) (p : Parts) (x : Phase) (o : Option BodyKind) (q : P
   pub good : Good (entries q.contents)
   pub phase : PhaseSound q u y
   pub bare : Bare q y
+  pub sized : Sized q y
 
 pub taken : {T : Type 0} (r : Result Item LineFault) (n : ℕ) (it : Item) (old new : Draft) (x : Phase) (v : T) → r ≡ Ok it → old.phase ≡ x → Step it old.parts x old.opened new.parts new.phase new.opened → LineTaken r n (Ok v) old new
 taken r n it old new x v e f s =
     let t = subst (λ z. Step it old.parts z old.opened new.parts new.phase new.opened) (sym f) s in
-    subst (λ z. LineTaken z n (Ok v) old new) (sym e) (t.state, t.items, record { good = t.good; phase = t.phase; bare = t.bare })
+    subst (λ z. LineTaken z n (Ok v) old new) (sym e) (t.state, t.items, record { good = t.good; phase = t.phase; bare = t.bare; sized = t.sized })
 
 pub refused : (T : Type 0) (r : Result Item LineFault) (n : ℕ) (f : LineFault) (g : Fault) (old new : Draft) → r ≡ Err f → g ≡ fault_at (state_of old) n f → LineTaken r n {T = T} (Err g) old new
 refused T r n f g old new e s = subst (λ z. LineTaken z n {T = T} (Err g) old new) (sym e) s
@@ -84,8 +86,8 @@ heading_items : (m k : ℕ) (es : List Contents) (h : Heading) → es ≡ [] →
 heading_items m k [] h e a b = ap₂ (λ x y. heading_line (record { map = x; bodies = y }) ∷ []) a (omega arith)
 heading_items m k (x ∷ es) h e a b = let z : x ∷ es ≡ [] = e in absurd (cc)
 
-pub heading_step : (p q : Parts) (o : Option BodyKind) (h : Heading) → Good (entries p.contents) → PhaseSound p o AtHeading → fits_at heading_due (state_with p AtHeading o) (heading_line h) ≡ true → q.map ≡ h.map → entries q.contents ≡ entries p.contents → ((k : BodyKind) → rows_of q k ≡ rows_of p k) → Bare p AtHeading → Step (heading_line h) p AtHeading o q (InContents h.bodies) o
-heading_step p q o h g ph fits m c rs bare =
+pub heading_step : (p q : Parts) (o : Option BodyKind) (h : Heading) → Good (entries p.contents) → PhaseSound p o AtHeading → fits_at heading_due (state_with p AtHeading o) (heading_line h) ≡ true → q.map ≡ h.map → entries q.contents ≡ entries p.contents → ((k : BodyKind) → rows_of q k ≡ rows_of p k) → ((k : BodyKind) → book_atoms q k ≡ book_atoms p k) → Bare p AtHeading → Sized p AtHeading → Step (heading_line h) p AtHeading o q (InContents h.bodies) o
+heading_step p q o h g ph fits m c rs atoms bare sized =
     let w = and_parts (is_map h.map) (within (from_to 1 body_limit) h.bodies) fits in
     let v = and_parts _ _ w.1 in
     let none : entries q.contents ≡ [] = c ∙ ph.0 in
@@ -98,6 +100,7 @@ heading_step p q o h g ph fits m c rs bare =
       good = subst Good (sym c) g;
       phase = (low, omega arith, ph.1);
       bare = λ k l. rs k ∙ bare k refl;
+      sized = λ k l. atoms k ∙ sized k refl;
     }
 
 -- parts with the same bodies
@@ -108,6 +111,14 @@ same_rows p q a b c d e f Below = ap nest_rows c
 same_rows p q a b c d e f Loop = ap (λ t. map arc_numbers (entries t)) d
 same_rows p q a b c d e f Milliamperes = ap (λ t. map load_numbers (entries t)) e
 same_rows p q a b c d e f Lines = ap (λ t. map load_numbers (entries t)) f
+
+pub same_atoms : (p q : Parts) → q.outer ≡ p.outer → q.nest ≡ p.nest → q.below ≡ p.below → (k : BodyKind) → book_atoms q k ≡ book_atoms p k
+same_atoms p q a b c Outer = ap atoms_of a
+same_atoms p q a b c Nest = ap nest_atoms b
+same_atoms p q a b c Below = ap nest_atoms c
+same_atoms p q a b c Loop = refl
+same_atoms p q a b c Milliamperes = refl
+same_atoms p q a b c Lines = refl
 
 -- a line of the contents
 
@@ -144,11 +155,11 @@ entry_items m n left es fs e s k =
     let long : length fs ≡ length es + 1 = ap length s ∙ length-append es (e ∷ []) in
     ap₂ (λ b l. heading_line (record { map = m; bodies = b }) ∷ l) (omega arith) (ap (map contents_line) s ∙ map-append contents_line es (e ∷ []))
 
-pub entry_step : (p q : Parts) (o : Option BodyKind) (left : ℕ) (y : Phase) (e : Contents) → Good (entries p.contents) → PhaseSound p o (InContents left) → fits_at contents_due (state_with p (InContents left) o) (contents_line e) ≡ true → q.map ≡ p.map → entries q.contents ≡ entries p.contents ++ e ∷ [] → EntriesLeft left y → ((k : BodyKind) → rows_of q k ≡ rows_of p k) → Bare p (InContents left) → Step (contents_line e) p (InContents left) o q y o
-entry_step p q o left AtHeading e g ph fits m c h rs bare = absurd h
-entry_step p q o left (Map f n) e g ph fits m c h rs bare = absurd h
-entry_step p q o left (Rows f l n) e g ph fits m c h rs bare = absurd h
-entry_step p q o left (InContents n) e g ph fits m c h rs bare =
+pub entry_step : (p q : Parts) (o : Option BodyKind) (left : ℕ) (y : Phase) (e : Contents) → Good (entries p.contents) → PhaseSound p o (InContents left) → fits_at contents_due (state_with p (InContents left) o) (contents_line e) ≡ true → q.map ≡ p.map → entries q.contents ≡ entries p.contents ++ e ∷ [] → EntriesLeft left y → ((k : BodyKind) → rows_of q k ≡ rows_of p k) → ((k : BodyKind) → book_atoms q k ≡ book_atoms p k) → Bare p (InContents left) → Sized p (InContents left) → Step (contents_line e) p (InContents left) o q y o
+entry_step p q o left AtHeading e g ph fits m c h rs atoms bare sized = absurd h
+entry_step p q o left (Map f n) e g ph fits m c h rs atoms bare sized = absurd h
+entry_step p q o left (Rows f l n) e g ph fits m c h rs atoms bare sized = absurd h
+entry_step p q o left (InContents n) e g ph fits m c h rs atoms bare sized =
     let w = and_parts (in_ranges e) (in_order e.kind (entries p.contents)) fits in
     let long : length (entries q.contents) ≡ length (entries p.contents) + 1 = ap length c ∙ length-append (entries p.contents) (e ∷ []) in
     let room = ph.1 in
@@ -158,8 +169,9 @@ entry_step p q o left (InContents n) e g ph fits m c h rs bare =
       good = subst Good (sym c) (good_push (entries p.contents) e g w.0 (apart_from e.kind (entries p.contents) w.1));
       phase = (h.1, omega arith, ph.2);
       bare = λ k l. rs k ∙ bare k refl;
+      sized = λ k l. atoms k ∙ sized k refl;
     }
-entry_step p q o left (Bodies n) e g ph fits m c h rs bare =
+entry_step p q o left (Bodies n) e g ph fits m c h rs atoms bare sized =
     let w = and_parts (in_ranges e) (in_order e.kind (entries p.contents)) fits in
     let es = entries p.contents in
     let first : slots (Bodies n) (entries q.contents) ≡ or_bodies (drop 1 (replicate left contents_due)) (es ++ e ∷ []) =
@@ -173,17 +185,26 @@ entry_step p q o left (Bodies n) e g ph fits m c h rs bare =
       good = subst Good (sym c) (good_push es e g w.0 (apart_from e.kind es w.1));
       phase = omega (arith, h.1);
       bare = λ k l. rs k ∙ bare k refl;
+      sized = λ k l. atoms k ∙ sized k refl ∙ sym (ap (λ j. atoms_at k (take j (entries q.contents))) h.1);
     }
 
 -- all bodies but one stay
 
 pub others_at : (k : BodyKind) (p q : Parts) → Others k p q → (j : BodyKind) → same_kind j k ≡ false → rows_of q j ≡ rows_of p j
-others_at k p q h Outer s = h.outer s
-others_at k p q h Nest s = h.nest s
-others_at k p q h Below s = h.below s
-others_at k p q h Loop s = h.arcs s
-others_at k p q h Milliamperes s = h.milliamperes s
-others_at k p q h Lines s = h.lines s
+others_at k p q h Outer s = ap clauses_of (h.outer s)
+others_at k p q h Nest s = ap nest_rows (h.nest s)
+others_at k p q h Below s = ap nest_rows (h.below s)
+others_at k p q h Loop s = ap (λ t. map arc_numbers (entries t)) (h.arcs s)
+others_at k p q h Milliamperes s = ap (λ t. map load_numbers (entries t)) (h.milliamperes s)
+others_at k p q h Lines s = ap (λ t. map load_numbers (entries t)) (h.lines s)
+
+others_over : (k : BodyKind) (p q : Parts) → Others k p q → (j : BodyKind) → same_kind j k ≡ false → book_atoms q j ≡ book_atoms p j
+others_over k p q h Outer s = ap atoms_of (h.outer s)
+others_over k p q h Nest s = ap nest_atoms (h.nest s)
+others_over k p q h Below s = ap nest_atoms (h.below s)
+others_over k p q h Loop s = refl
+others_over k p q h Milliamperes s = refl
+others_over k p q h Lines s = refl
 
 other_way : (k j : BodyKind) → same_kind k j ≡ false → same_kind j k ≡ false
 other_way k j h = ne_eqb (letter_of j) (letter_of k) (λ e. eqb-false (letter_of k) (letter_of j) h (sym e))
@@ -272,6 +293,39 @@ bare_rows p q e left n y here h bare left_is k l =
     let same : opened_in y (entries q.contents) ≡ here.before ++ e ∷ [] = opened_rows e left n y (entries q.contents) left_is ∙ ap (take n) h.contents ∙ here.same in
     bare_last p q e here.before h (subst (λ x. (j : BodyKind) → listed j x ≡ false → rows_of p j ≡ []) here.same bare) k (sym (ap (listed k) same) ∙ l)
 
+-- a body that was opened is over its atoms, but a nest without its map
+
+atoms_apart : (k : BodyKind) (es : List Contents) (e : Contents) → same_kind k e.kind ≡ false → atoms_at k (es ++ e ∷ []) ≡ atoms_at k es
+atoms_apart k [] e h = cond-false _ _ _ h
+atoms_apart k (x ∷ es) e h = ap (λ n. cond (same_kind k x.kind) (atoms_in x) n) (atoms_apart k es e h)
+
+atoms_last : (es : List Contents) (e : Contents) → listed e.kind es ≡ false → atoms_at e.kind (es ++ e ∷ []) ≡ atoms_in e
+atoms_last [] e h = cond-true _ _ _ (eq-eqb (letter_of e.kind) (letter_of e.kind) refl)
+atoms_last (x ∷ es) e h =
+    let w = or_parts (same_kind e.kind x.kind) (listed e.kind es) h in
+    cond-false _ _ _ w.0 ∙ atoms_last es e w.1
+
+ready_over : (k : BodyKind) (n : ℕ) (p : Parts) → IsReady k (cond (has_clauses k) n 0) p → book_atoms p k ≡ cond (has_clauses k) n 0
+ready_over Outer n p h = h
+ready_over Nest n p h = h.1
+ready_over Below n p h = h.1
+ready_over Loop n p h = refl
+ready_over Milliamperes n p h = refl
+ready_over Lines n p h = refl
+
+sized_last : (p q : Parts) (e : Contents) (es : List Contents) → Others e.kind p q → IsReady e.kind (atoms_in e) q → listed e.kind es ≡ false → ((k : BodyKind) → same_kind k e.kind ≡ false → book_atoms p k ≡ atoms_at k (es ++ e ∷ [])) → (k : BodyKind) → book_atoms q k ≡ atoms_at k (es ++ e ∷ [])
+sized_last p q e es h ready apart sized k = ⊎_elim
+    (λ (t : same_kind k e.kind ≡ true).
+    let same = same_kind_is k e.kind t in
+    ap (book_atoms q) same ∙ ready_over e.kind (e.size + e.own) q ready ∙ sym (atoms_last es e apart) ∙ ap (λ j. atoms_at j (es ++ e ∷ [])) (sym same))
+    (λ (f : same_kind k e.kind ≡ false). others_over e.kind p q h k f ∙ sized k f)
+    (cases_Bool (same_kind k e.kind))
+
+sized_rows : (p q : Parts) (e : Contents) (left n : ℕ) (y : Phase) → Here (entries p.contents) n e → Others e.kind p q → IsReady e.kind (atoms_in e) q → ((k : BodyKind) → same_kind k e.kind ≡ false → book_atoms p k ≡ atoms_at k (take n (entries p.contents))) → RowsLeft e left n y → Sized q y
+sized_rows p q e left n y here h ready sized left_is k l =
+    let same : opened_in y (entries q.contents) ≡ here.before ++ e ∷ [] = opened_rows e left n y (entries q.contents) left_is ∙ ap (take n) h.contents ∙ here.same in
+    sized_last p q e here.before h ready here.apart (λ j f. sized j f ∙ ap (atoms_at j) here.same) k ∙ sym (ap (atoms_at k) same)
+
 -- a row more
 
 drop_row : (n : ℕ) (x : Slot) (xs : List Slot) → 1 ≤ n → replicate (n - 1) x ++ xs ≡ drop 1 (replicate n x ++ xs)
@@ -282,8 +336,8 @@ due_row : (n : ℕ) (x : Slot) (xs : List Slot) → 1 ≤ n → due (replicate n
 due_row zero x xs h = absurd (omega arith)
 due_row (suc n) x xs h = refl
 
-pub row_step : (p q : Parts) (o : Option BodyKind) (e : Contents) (left n : ℕ) (y : Phase) (zs : List ℤ) → Good (entries p.contents) → RowsSound p o e left n → Others e.kind p q → rows_of q e.kind ≡ rows_of p e.kind ++ zs ∷ [] → clauses_in q e.kind ≡ clauses_in p e.kind ++ zs ∷ [] → IsReady e.kind (atoms_in e) q → RowsLeft e (left - 1) n y → Bare p (Rows e left n) → Step (row_line zs) p (Rows e left n) o q y o
-row_step p q o e left n y zs g ph h r c ready left_is bare =
+pub row_step : (p q : Parts) (o : Option BodyKind) (e : Contents) (left n : ℕ) (y : Phase) (zs : List ℤ) → Good (entries p.contents) → RowsSound p o e left n → Others e.kind p q → rows_of q e.kind ≡ rows_of p e.kind ++ zs ∷ [] → clauses_in q e.kind ≡ clauses_in p e.kind ++ zs ∷ [] → IsReady e.kind (atoms_in e) q → RowsLeft e (left - 1) n y → Bare p (Rows e left n) → Sized p (Rows e left n) → Step (row_line zs) p (Rows e left n) o q y o
+row_step p q o e left n y zs g ph h r c ready left_is bare sized =
     let es = entries p.contents in
     let some = ph.some in
     let count = ph.count in
@@ -298,6 +352,7 @@ row_step p q o e left n y zs g ph h r c ready left_is bare =
       good = subst Good (sym h.contents) g;
       phase = subst (λ k. PhaseSound q k y) (sym ph.opened) (sound_rows q e (left - 1) n y here (omega arith) ready left_is);
       bare = bare_rows p q e (left - 1) n y ph.here h bare left_is;
+      sized = sized_rows p q e (left - 1) n y ph.here h ready (λ k f. sized k refl) left_is;
     }
 
 begun_rows : (k : BodyKind) (n : ℕ) (p : Parts) → IsBegun k n p → rows_of p k ≡ []
@@ -336,8 +391,8 @@ rows_some Lines n m h = absurd (both_ways false refl m)
 ranged_rows : (e : Contents) → in_ranges e ≡ true → within (rows_range e.kind) e.rows ≡ true
 ranged_rows e h = (and_parts (within (rows_range e.kind) e.rows) _ (and_parts (within (size_range e.kind) e.size && within (own_range e.kind) e.own) _ h).1).0
 
-pub map_step : (p q : Parts) (o : Option BodyKind) (e : Contents) (n : ℕ) (y : Phase) (zs : List ℤ) → Good (entries p.contents) → MapSound p o e n → Others e.kind p q → rows_of q e.kind ≡ zs ∷ [] → clauses_in q e.kind ≡ [] → IsReady e.kind (atoms_in e) q → RowsLeft e (e.rows - 1) n y → Bare p (Map e n) → Step (row_line zs) p (Map e n) o q y o
-map_step p q o e n y zs g ph h r c ready left_is bare =
+pub map_step : (p q : Parts) (o : Option BodyKind) (e : Contents) (n : ℕ) (y : Phase) (zs : List ℤ) → Good (entries p.contents) → MapSound p o e n → Others e.kind p q → rows_of q e.kind ≡ zs ∷ [] → clauses_in q e.kind ≡ [] → IsReady e.kind (atoms_in e) q → RowsLeft e (e.rows - 1) n y → Bare p (Map e n) → Sized p (Map e n) → Step (row_line zs) p (Map e n) o q y o
+map_step p q o e n y zs g ph h r c ready left_is bare sized =
     let es = entries p.contents in
     let none = begun_rows e.kind (atoms_in e) p ph.begun in
     let some = rows_some e.kind e.rows ph.mapped (ranged_rows e ph.here.ranged) in
@@ -352,6 +407,7 @@ map_step p q o e n y zs g ph h r c ready left_is bare =
       good = subst Good (sym h.contents) g;
       phase = subst (λ k. PhaseSound q k y) (sym ph.opened) (sound_rows q e (e.rows - 1) n y here (omega arith) ready left_is);
       bare = bare_rows p q e (e.rows - 1) n y ph.here h bare left_is;
+      sized = sized_rows p q e (e.rows - 1) n y ph.here h ready sized left_is;
     }
 
 -- a body is opened
@@ -387,8 +443,8 @@ opening_opened e n y es h = ⊎_elim
     (λ (w : (has_map e.kind ≡ false) × RowsLeft e e.rows n y). opened_rows e e.rows n y es w.1)
     h
 
-pub opening_step : (p q : Parts) (o : Option BodyKind) (n : ℕ) (e : Contents) (y : Phase) → Good (entries p.contents) → due (bodies_due (drop n (entries p.contents))) ≡ body_due e → Others e.kind p q → IsBegun e.kind (atoms_in e) q → Opened e (n + 1) y → Bare p (Bodies n) → Step (body_line e.kind p.map) p (Bodies n) o q y (Some e.kind)
-opening_step p q o n e y g first h begun is bare =
+pub opening_step : (p q : Parts) (o : Option BodyKind) (n : ℕ) (e : Contents) (y : Phase) → Good (entries p.contents) → due (bodies_due (drop n (entries p.contents))) ≡ body_due e → Others e.kind p q → IsBegun e.kind (atoms_in e) q → Opened e (n + 1) y → Bare p (Bodies n) → Sized p (Bodies n) → Step (body_line e.kind p.map) p (Bodies n) o q y (Some e.kind)
+opening_step p q o n e y g first h begun is bare sized =
     let es = entries p.contents in
     let at = next_entry es n e e first in
     let is_good = g n e at.0 in
@@ -421,6 +477,16 @@ opening_step p q o n e y g first h begun is bare =
           let same : opened_in y (entries q.contents) ≡ take n es ++ e ∷ [] = opening_opened e (n + 1) y (entries q.contents) is ∙ ap (take (n + 1)) h.contents ∙ more in
           let w = listed_last k (take n es) e (sym (ap (listed k) same) ∙ l) in
           others_at e.kind p q h k w.1 ∙ bare k w.0;
+      sized = λ k l.
+          let same : opened_in y (entries q.contents) ≡ take n es ++ e ∷ [] = opening_opened e (n + 1) y (entries q.contents) is ∙ ap (take (n + 1)) h.contents ∙ more in
+          let old_sized = λ (j : BodyKind) (f : same_kind j e.kind ≡ false). sized j refl ∙ sym (atoms_apart j (take n es) e f) in
+          ⊎_elim
+          (λ (w : (has_map e.kind ≡ true) × (y ≡ Map e (n + 1))).
+          let f : same_kind k e.kind ≡ false = sym (ap (λ x. lacks_map x k) w.1) ∙ l in
+          others_over e.kind p q h k f ∙ old_sized k f)
+          (λ (w : (has_map e.kind ≡ false) × RowsLeft e e.rows (n + 1) y). sized_last p q e (take n es) h (begun_ready e.kind (atoms_in e) q w.0 begun) here.apart old_sized k)
+          is
+          ∙ sym (ap (atoms_at k) same);
     }
 
 -- bounds that the contents keep

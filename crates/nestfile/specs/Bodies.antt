@@ -1,5 +1,5 @@
 -- The rows of a body, each as its numbers. Assumes nothing.
-use Rattle.std.specs.Prelude.{◌≡◌, ℕ, ◌+◌, Bool, true, false, cond, ◌&&◌, ◌||◌, List, [], ◌∷◌, length, map, ℤ, pos, Result, Ok, Err, Option, Some, None, is_some}
+use Rattle.std.specs.Prelude.{◌≡◌, ℕ, ◌+◌, Bool, true, false, cond, ◌&&◌, ◌||◌, List, [], ◌∷◌, length, map, ℤ, pos, Result, Ok, Err, Option, Some, None, is_some, ◌==◌}
 use Rattle.std.specs.List.{list_all}
 use Rattle.refusals.specs.declared.Refusal.{Refusal}
 use Rattle.refusals.specs.declared.Refusal.TheVariants.{LiteralOutOfRange}
@@ -10,7 +10,7 @@ use Rattle.nestformat.specs.declared.kinds.BodyKind.TheVariants.{Outer, Nest, Be
 use Rattle.nestformat.specs.declared.kinds.Contents.{Contents}
 use Rattle.nestformat.specs.Kinds.{same_kind}
 use Rattle.nestformat.specs.Items.{Body, Problem}
-use Rattle.nestformat.specs.Due.{Slot, start, is_atom, form, listed, refusal_below}
+use Rattle.nestformat.specs.Due.{Slot, start, is_atom, form, listed, atoms_at, refusal_below}
 use Rattle.nestfile.specs.declared.NestBody.{NestBody}
 use Rattle.nestfile.specs.declared.Parts.{Parts}
 use Rattle.nestfile.specs.Rows.{arc_numbers, load_numbers, caused}
@@ -67,16 +67,23 @@ IsBegun Nest n p = p.nest ≡ None
 IsBegun Below n p = p.below ≡ None
 IsBegun k n p = (rows_of p k ≡ []) × IsReady k n p
 
+-- the atoms that the book of a kind is over: none where no book is there
+abbrev pub book_atoms : Parts → BodyKind → ℕ
+book_atoms p Outer = atoms_of p.outer
+book_atoms p Nest = nest_atoms p.nest
+book_atoms p Below = nest_atoms p.below
+book_atoms p k = 0
+
 -- all but the body of kind k stayed
 pub record Others (k : BodyKind) (old new : Parts) : Type 0 where
   pub map : new.map ≡ old.map
   pub contents : entries new.contents ≡ entries old.contents
-  pub outer : same_kind Outer k ≡ false → rows_of new Outer ≡ rows_of old Outer
-  pub nest : same_kind Nest k ≡ false → rows_of new Nest ≡ rows_of old Nest
-  pub below : same_kind Below k ≡ false → rows_of new Below ≡ rows_of old Below
-  pub arcs : same_kind Loop k ≡ false → rows_of new Loop ≡ rows_of old Loop
-  pub milliamperes : same_kind Milliamperes k ≡ false → rows_of new Milliamperes ≡ rows_of old Milliamperes
-  pub lines : same_kind Lines k ≡ false → rows_of new Lines ≡ rows_of old Lines
+  pub outer : same_kind Outer k ≡ false → new.outer ≡ old.outer
+  pub nest : same_kind Nest k ≡ false → new.nest ≡ old.nest
+  pub below : same_kind Below k ≡ false → new.below ≡ old.below
+  pub arcs : same_kind Loop k ≡ false → new.arcs ≡ old.arcs
+  pub milliamperes : same_kind Milliamperes k ≡ false → new.milliamperes ≡ old.milliamperes
+  pub lines : same_kind Lines k ≡ false → new.lines ≡ old.lines
 
 -- why a row is refused where x is due, in the body with these clauses so far
 abbrev pub refusal_at : Slot → List Contents → List (List ℤ) → List ℤ → Option (Option Refusal)
@@ -85,17 +92,15 @@ refusal_at x es cs zs = cond (form x zs) (caused (refusal_below x (record start 
 abbrev pub NoRows : Parts → Type 0
 NoRows p = (k : BodyKind) → rows_of p k ≡ []
 
+abbrev pub NoAtoms : Parts → Type 0
+NoAtoms p = (k : BodyKind) → book_atoms p k ≡ 0
+
 -- the numbers zs were read as the map of a nest with so many seen and own atoms, each number at most n; or there are more or
 -- fewer, or an atom is out of range
 abbrev pub NestRead : ℕ → ℕ → ℕ → List ℤ → Result NestBody (Option Refusal) → Type 0
 NestRead seen own n zs (Ok b) = (nest_rows (Some b) ≡ zs ∷ []) × (atoms_of b.book ≡ seen + own) × (length zs ≡ seen) × (list_all (is_atom n) zs ≡ true)
 NestRead seen own n zs (Err None) = (length zs ≡ seen) → ⊥
 NestRead seen own n zs (Err (Some e)) = (e ≡ LiteralOutOfRange) × (length zs ≡ seen) × (list_all (is_atom n) zs ≡ false)
-
--- the rows of the body of that kind, or none where there is no such body
-abbrev pub rows_at : BodyKind → List Body → List (List ℤ)
-rows_at k [] = []
-rows_at k (b ∷ bs) = cond (same_kind k b.contents.kind) b.rows (rows_at k bs)
 
 abbrev pub has_none : List (List ℤ) → Bool
 has_none [] = true
@@ -107,3 +112,10 @@ bare_at k p = listed k (entries p.contents) || has_none (rows_of p k)
 -- a body that the contents do not name has no rows. It is a test, since a ghost field wants a fact with at most one proof
 abbrev pub bare : Parts → Bool
 bare p = bare_at Outer p && (bare_at Nest p && (bare_at Below p && (bare_at Loop p && (bare_at Milliamperes p && bare_at Lines p))))
+
+abbrev pub sized_at : BodyKind → Parts → Bool
+sized_at k p = book_atoms p k == atoms_at k (entries p.contents)
+
+-- each book is over the atoms that the contents give to its body
+abbrev pub sized : Parts → Bool
+sized p = sized_at Outer p && (sized_at Nest p && sized_at Below p)

@@ -1,14 +1,14 @@
 -- What a draft stands for: what is due, and the items that were read. Assumes nothing.
-use Rattle.std.specs.Prelude.{◌≡◌, ℕ, ◌+◌, ◌-◌, ◌≤◌, ◌<◌, true, false, List, [], ◌∷◌, ◌++◌, map, flat_map, length, take, drop, replicate, ℤ, Ok, Err, Some, None, Option, Result, slice_index_or}
+use Rattle.std.specs.Prelude.{◌≡◌, ℕ, ◌+◌, ◌-◌, ◌≤◌, ◌<◌, Bool, true, false, List, [], ◌∷◌, ◌++◌, map, flat_map, length, take, drop, replicate, ℤ, Ok, Err, Some, None, Option, Result, slice_index_or}
 use Rattle.tables.specs.Items.{entries}
 use Rattle.refusals.specs.declared.Fault.{Fault}
 use Rattle.nestformat.specs.declared.faults.LineFault.{LineFault}
 use Rattle.nestformat.specs.declared.kinds.BodyKind.{BodyKind}
 use Rattle.nestformat.specs.declared.kinds.Contents.{Contents}
 use Rattle.nestformat.specs.Limits.{body_limit}
-use Rattle.nestformat.specs.Kinds.{letter_of, has_map, atoms_in, in_ranges}
+use Rattle.nestformat.specs.Kinds.{letter_of, same_kind, has_map, atoms_in, in_ranges}
 use Rattle.nestformat.specs.Items.{Item, heading_line, contents_line, body_items}
-use Rattle.nestformat.specs.Due.{Slot, heading_due, contents_due, body_due, map_due, row_due, end_due, State, advance, bodies_due, listed}
+use Rattle.nestformat.specs.Due.{Slot, heading_due, contents_due, body_due, map_due, row_due, end_due, State, advance, bodies_due, listed, atoms_at}
 use Rattle.nestformat.specs.Reading.{fault_at}
 use Rattle.nestfile.specs.declared.Parts.{Parts}
 use Rattle.nestfile.specs.declared.due.Due.{Due}
@@ -16,7 +16,7 @@ use Rattle.nestfile.specs.declared.due.Due.TheVariants.{Heading as HeadingDue, C
 use Rattle.nestfile.specs.declared.drafts.Draft.{Draft}
 use Rattle.nestfile.specs.declared.drafts.Phase.{Phase}
 use Rattle.nestfile.specs.declared.drafts.Phase.TheVariants.{Heading, Contents as InContents, Bodies, Map, Rows}
-use Rattle.nestfile.specs.Bodies.{rows_of, clauses_in, body_of, IsBegun, IsReady}
+use Rattle.nestfile.specs.Bodies.{rows_of, clauses_in, body_of, book_atoms, IsBegun, IsReady}
 
 abbrev pub slot_of : Due → Slot
 slot_of HeadingDue = heading_due
@@ -120,10 +120,20 @@ opened_in _ es = []
 abbrev pub Bare : Parts → Phase → Type 0
 Bare p x = (k : BodyKind) → listed k (opened_in x (entries p.contents)) ≡ false → rows_of p k ≡ []
 
+-- the map of the nest of that kind is due
+abbrev pub lacks_map : Phase → BodyKind → Bool
+lacks_map (Map e n) k = same_kind k e.kind
+lacks_map _ k = false
+
+-- each book is over the atoms of its body, once it was opened and, where it is a nest, has its map
+abbrev pub Sized : Parts → Phase → Type 0
+Sized p x = (k : BodyKind) → lacks_map x k ≡ false → book_atoms p k ≡ atoms_at k (opened_in x (entries p.contents))
+
 pub record Sound (d : Draft) : Type 0 where
   pub good : Good (entries d.parts.contents)
   pub phase : PhaseSound d.parts d.opened d.phase
   pub bare : Bare d.parts d.phase
+  pub sized : Sized d.parts d.phase
 
 -- the n-th line was judged, and answered: the item is taken, or the fault is told with its place
 abbrev pub LineTaken : Result Item LineFault → ℕ → {T : Type 0} → Result T Fault → Draft → Draft → Type 0

@@ -1,8 +1,14 @@
 // The empty problem, and what a problem holds.
-ghost use Rattle.std.specs.Prelude.{◌≡◌, Some, is_some, IfSome};
+ghost use Rattle.std.specs.Prelude.{◌≡◌, ◌≤◌, ◌∷◌, length, map, pos, is_some, IfSome};
 ghost use Rattle.tables.specs.Items.{entries};
-ghost use Rattle.nestfile.specs.Problems.{told, empty_problem, arcs_of, milliamperes_of, lines_of, outer_of, nest_of, below_of};
+ghost use Rattle.nestfile.specs.Problems.{told, empty_problem};
+ghost use Rattle.clauses.specs.Books.{atoms_of, clauses_of};
+ghost use Rattle.nestfile.specs.Rows.{arc_numbers, load_numbers};
+ghost use Rattle.nestformat.specs.declared.kinds.BodyKind.TheVariants.{Outer, Nest, Below, Loop, Milliamperes, Lines};
+ghost use Rattle.nestformat.specs.Limits.{row_limit};
 ghost use Rattle.nestformat.specs.Items.{contents_of};
+ghost use Rattle.nestformat.specs.Bodies.{rows_at};
+ghost use Rattle.nestformat.specs.Due.{listed, atoms_at};
 
 use crate::{NestBody, Parts, Problem};
 use clauses::book::ClauseBook;
@@ -39,46 +45,52 @@ impl Problem {
         self.parts.contents.as_slice()
     }
 
-    // The clauses over the atoms of the problem.
+    // The clauses of the outer body, over its atoms.
     pub fn outer(&self) -> &ClauseBook
-        ensures { result.now ≡ outer_of self.now }
+        ensures rows { clauses_of result.now ≡ rows_at Outer (told self.now).bodies }
+        ensures atoms { atoms_of result.now ≡ atoms_at Outer (contents_of (told self.now).bodies) }
     {
         &self.parts.outer
     }
 
-    // The nest, where the contents name one.
+    // The nest, where the contents name one: its first row is the map, the others are clauses over its seen and own atoms.
     pub fn nest(&self) -> Option<&NestBody>
-        ensures there { is_some result ≡ is_some (nest_of self.now) }
-        ensures value { IfSome result (λ b. nest_of self.now ≡ Some b.now) }
+        ensures there { is_some result ≡ listed Nest (contents_of (told self.now).bodies) }
+        ensures rows { IfSome result (λ b. (map pos (entries b.now.map) ∷ clauses_of b.now.book) ≡ rows_at Nest (told self.now).bodies) }
+        ensures atoms { IfSome result (λ b. atoms_of b.now.book ≡ atoms_at Nest (contents_of (told self.now).bodies)) }
     {
         self.parts.nest.as_ref()
     }
 
-    // The nest below it, where the contents name one.
+    // The nest below it, likewise.
     pub fn below(&self) -> Option<&NestBody>
-        ensures there { is_some result ≡ is_some (below_of self.now) }
-        ensures value { IfSome result (λ b. below_of self.now ≡ Some b.now) }
+        ensures there { is_some result ≡ listed Below (contents_of (told self.now).bodies) }
+        ensures rows { IfSome result (λ b. (map pos (entries b.now.map) ∷ clauses_of b.now.book) ≡ rows_at Below (told self.now).bodies) }
+        ensures atoms { IfSome result (λ b. atoms_of b.now.book ≡ atoms_at Below (contents_of (told self.now).bodies)) }
     {
         self.parts.below.as_ref()
     }
 
     // The arcs of the loop body, or none.
     pub fn arcs(&self) -> &[Arc]
-        ensures { result.now ≡ arcs_of self.now }
+        ensures rows { map arc_numbers result.now ≡ rows_at Loop (told self.now).bodies }
+        ensures few { length result.now ≤ row_limit }
     {
         self.parts.arcs.as_slice()
     }
 
     // The loads in milliamperes, without their limit, or none.
     pub fn milliamperes(&self) -> &[Row<Milliamperes>]
-        ensures { result.now ≡ milliamperes_of self.now }
+        ensures rows { map load_numbers result.now ≡ rows_at Milliamperes (told self.now).bodies }
+        ensures few { length result.now ≤ row_limit }
     {
         self.parts.milliamperes.as_slice()
     }
 
     // The loads by lines, without their limit, or none.
     pub fn lines(&self) -> &[Row<Lines>]
-        ensures { result.now ≡ lines_of self.now }
+        ensures rows { map load_numbers result.now ≡ rows_at Lines (told self.now).bodies }
+        ensures few { length result.now ≤ row_limit }
     {
         self.parts.lines.as_slice()
     }

@@ -7,7 +7,7 @@ ghost use Rattle.nestformat.specs.Limits.{row_limit};
 ghost use Rattle.nestformat.specs.Kinds.{has_clauses, has_map, atoms_in, in_ranges};
 ghost use Rattle.nestformat.specs.declared.kinds.BodyKind.TheVariants.{Outer};
 ghost use Rattle.nestformat.specs.Due.{map_due, row_due, atoms_at, host_of};
-ghost use Rattle.nestfile.specs.Bodies.{rows_of, clauses_in, NoRows, IsBegun, IsReady, Others, refusal_at};
+ghost use Rattle.nestfile.specs.Bodies.{rows_of, clauses_in, NoRows, NoAtoms, IsBegun, IsReady, Others, refusal_at};
 
 use crate::Parts;
 use crate::adding::{add_arc, add_clause, add_lines, add_milliamperes, add_nest_clause, nest_of};
@@ -48,6 +48,7 @@ impl Parts {
         ensures map { result.map ≡ map }
         ensures contents { entries result.contents ≡ [] }
         ensures rows { NoRows result }
+        ensures atoms { NoAtoms result }
     {
         Parts {
             map,

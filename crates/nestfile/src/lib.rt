@@ -20,7 +20,7 @@ ghost use Rattle.std.specs.Prelude.{◌≡◌, true};
 ghost use Rattle.nestformat.specs.Items.{items_of};
 ghost use Rattle.nestformat.specs.Due.{start};
 ghost use Rattle.nestformat.specs.Reading.{whole};
-ghost use Rattle.nestfile.specs.Bodies.{bare, problem_of};
+ghost use Rattle.nestfile.specs.Bodies.{bare, sized, problem_of};
 
 use assignments::{ATOM_LIMIT, AtomNumber};
 use clauses::book::ClauseBook;
@@ -57,4 +57,5 @@ pub struct Problem {
     parts: Parts,
     ghost whole: { whole start (items_of (problem_of parts)) ≡ true },
     ghost bare: { bare parts ≡ true },
+    ghost sized: { sized parts ≡ true },
 }

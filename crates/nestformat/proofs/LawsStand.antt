@@ -36,7 +36,7 @@ spelt_is_read : (t : List ℕ) (its : List Item) → whole start its ≡ true �
 spelt_is_read t its w h = short_accepted t its h.short (record { allowed = h.allowed; tokened = h.tokened; right = w })
 
 -- the items of a problem are whole just where it is right
-right_of : (p : Problem) → whole start (items_of p) ≡ true → RightProblem p
+pub right_of : (p : Problem) → whole start (items_of p) ≡ true → RightProblem p
 right_of p w = let q = parts (items_of p) w in subst RightProblem (sym (same_problem p q.problem q.is)) q.right
 
 pub accepts : Accepts

@@ -10,3 +10,4 @@ pub mod LawsStand
 pub mod Determined
 pub mod Earliness
 pub mod Causes
+pub mod Bodies

@@ -2,6 +2,7 @@ pub mod Limits
 pub mod Kinds
 pub mod Faults
 pub mod Items
+pub mod Bodies
 pub mod Due
 pub mod Reading
 pub mod Refused

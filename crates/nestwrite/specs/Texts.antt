@@ -3,8 +3,8 @@ use Rattle.std.specs.Prelude.{ℕ, List, ◌++◌, ℤ, flat_map}
 use Rattle.nestformat.specs.declared.kinds.BodyKind.{BodyKind}
 use Rattle.nestformat.specs.declared.kinds.Contents.{Contents}
 use Rattle.nestformat.specs.Items.{Item, contents_line, body_line, row_line, item_line}
+use Rattle.nestformat.specs.Bodies.{rows_at}
 use Rattle.nestfile.specs.declared.Problem.{Problem as Held}
-use Rattle.nestfile.specs.Bodies.{rows_of}
 use Rattle.nestfile.specs.Problems.{told}
 use Rattle.writing.specs.Texts.{ended}
 
@@ -21,7 +21,7 @@ abbrev pub rows_text : List (List ℤ) → List ℕ
 rows_text rs = flat_map row_text rs
 
 abbrev pub kind_rows : Held → BodyKind → List (List ℤ)
-kind_rows h k = rows_of h.parts k
+kind_rows h k = rows_at k (told h).bodies
 
 -- the body line of the kind, and the rows
 abbrev pub body_text : Held → BodyKind → List ℕ

@@ -5,13 +5,13 @@ use Rattle.nested.specs.Plans.{plan_of}
 use Rattle.nested.specs.Shaping.{refusal_of_shaping}
 use Rattle.vetoes.specs.Meaning.{silent}
 use Rattle.nestformat.specs.declared.kinds.BodyKind.TheVariants.{Below}
-use Rattle.nestfile.specs.Problems.{told, below_of}
-use Rattle.finder.specs.Bodies.{body_at}
+use Rattle.nestfile.specs.Problems.{told}
+use Rattle.nestformat.specs.Bodies.{body_at}
 use Rattle.finder.specs.Fitting.{fit, with_all}
 use Rattle.finder.proofs.Entries.{entry_missing}
-use Rattle.finder.proofs.Fits.{below_described, below_there}
+use Rattle.finder.proofs.Fits.{below_described, named}
 use Rattle.finder.proofs.Vetoes.{nest_is, nest_missing}
-use Rattle.finder.proofs.Told.{entry_is, absent}
+use Rattle.finder.proofs.Told.{entry_is}
 use Rattle.finder.proofs.nests.below_of.Goals as goal
 
 pub returns-in_default : goal.returns-in_default
@@ -26,8 +26,7 @@ shaped-requires-clause-shape c =
     let h = c.args.problem.now in
     let e = c.in-Some.entry in
     let b = c.in-Some-below.body.now in
-    let there : below_of h ≡ Some b = c.in-Some-below.ensures.value in
-    let d = below_described h e b (entry_is h Below c.contents.result.now c.entry_of.result (Some e) c.contents.ensures c.entry_of.ensures c.in-Some.is) there in
+    let d = below_described h e b (entry_is h Below c.contents.result.now c.entry_of.result (Some e) c.contents.ensures c.entry_of.ensures c.in-Some.is) c.in-Some-below.ensures.rows in
     ap (λ m. refusal_of_shaping 0 m e.own) c.as_slice.ensures ∙ d.shape
 
 pub shaped-requires-clause-fits : goal.shaped-requires-clause-fits
@@ -35,22 +34,20 @@ shaped-requires-clause-fits c =
     let h = c.args.problem.now in
     let e = c.in-Some.entry in
     let b = c.in-Some-below.body.now in
-    let there : below_of h ≡ Some b = c.in-Some-below.ensures.value in
-    let d = below_described h e b (entry_is h Below c.contents.result.now c.entry_of.result (Some e) c.contents.ensures c.entry_of.ensures c.in-Some.is) there in
+    let d = below_described h e b (entry_is h Below c.contents.result.now c.entry_of.result (Some e) c.contents.ensures c.entry_of.ensures c.in-Some.is) c.in-Some-below.ensures.rows in
     ap (λ m. fit (length m + e.own) [] (clauses_of b.book)) c.as_slice.ensures ∙ d.fits
 
 pub unreachable-requires : goal.unreachable-requires
 unreachable-requires c =
     let h = c.args.problem.now in
     let e = c.in-Some.entry in
-    below_there h e (entry_is h Below c.contents.result.now c.entry_of.result (Some e) c.contents.ensures c.entry_of.ensures c.in-Some.is) (absent (below_of h) c.in-None.ensures.there)
+    named h Below e (entry_is h Below c.contents.result.now c.entry_of.result (Some e) c.contents.ensures c.entry_of.ensures c.in-Some.is) c.in-None.ensures.there
 
 pub returns : goal.returns
 returns c =
     let h = c.args.problem.now in
     let e = c.in-Some.entry in
     let b = c.in-Some-below.body.now in
-    let there : below_of h ≡ Some b = c.in-Some-below.ensures.value in
-    let d = below_described h e b (entry_is h Below c.contents.result.now c.entry_of.result (Some e) c.contents.ensures c.entry_of.ensures c.in-Some.is) there in
+    let d = below_described h e b (entry_is h Below c.contents.result.now c.entry_of.result (Some e) c.contents.ensures c.entry_of.ensures c.in-Some.is) c.in-Some-below.ensures.rows in
     nest_is (body_at Below (told h).bodies) 0 e.own (entries b.map) (clauses_of b.book) (plan_of c.shaped.result.shape) silent silent d
     (c.shaped.ensures.plan ∙ ap (λ m. Some (with_all m e.own (clauses_of b.book))) c.as_slice.ensures) refl

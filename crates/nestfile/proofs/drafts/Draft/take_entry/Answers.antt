@@ -7,8 +7,8 @@ use Rattle.nestfile.specs.declared.Parts.{Parts}
 use Rattle.nestfile.specs.declared.drafts.Draft.{Draft}
 use Rattle.nestfile.specs.declared.drafts.Phase.TheVariants.{Contents}
 use Rattle.nestfile.specs.LineItems.{item_or_fault}
-use Rattle.nestfile.specs.Drafts.{state_of, PhaseSound, Bare}
-use Rattle.nestfile.proofs.Steps.{item_fits, entry_read, entry_faulty, entry_pushed, entry_step, same_rows, taken, refused_result}
+use Rattle.nestfile.specs.Drafts.{state_of, PhaseSound, Bare, Sized}
+use Rattle.nestfile.proofs.Steps.{item_fits, entry_read, entry_faulty, entry_pushed, entry_step, same_rows, taken, refused_result, same_atoms}
 use Rattle.nestfile.proofs.drafts.Draft.take_entry.Goals as goal
 
 pub returns-in_err-entry-clause-taken : goal.returns-in_err-entry-clause-taken
@@ -32,4 +32,4 @@ returns-clause-taken c =
     (entry_step p q old.opened c.args.count c.after_entry-self.result e c.requires.sound.good ph (item_fits contents_due (state_of old) (left c.args.reader.now) (contents_line e) is) refl
     (entry_pushed c.push.result (entries p.contents) (entries c.push.new.self) e c.args.count c.push.ensures.value c.push.ensures.items ph.0 ph.1)
     c.after_entry-self.ensures
-    (λ k. same_rows p q refl refl refl refl refl refl k) (subst (Bare p) c.requires.phase c.requires.sound.bare))
+    (λ k. same_rows p q refl refl refl refl refl refl k) (λ k. same_atoms p q refl refl refl k) (subst (Bare p) c.requires.phase c.requires.sound.bare) (subst (Sized p) c.requires.phase c.requires.sound.sized))

@@ -6,8 +6,8 @@ use Rattle.nestfile.specs.declared.Parts.{Parts}
 use Rattle.nestfile.specs.declared.drafts.Draft.{Draft}
 use Rattle.nestfile.specs.declared.drafts.Phase.TheVariants.{Heading, Contents}
 use Rattle.nestfile.specs.LineItems.{item_or_fault}
-use Rattle.nestfile.specs.Drafts.{state_of, PhaseSound, Bare}
-use Rattle.nestfile.proofs.Steps.{item_fits, heading_read, heading_faulty, heading_step, same_rows, taken, refused_result}
+use Rattle.nestfile.specs.Drafts.{state_of, PhaseSound, Bare, Sized}
+use Rattle.nestfile.proofs.Steps.{item_fits, heading_read, heading_faulty, heading_step, same_rows, taken, refused_result, same_atoms}
 use Rattle.nestfile.proofs.drafts.Draft.take_heading.Goals as goal
 
 pub returns-in_err-heading-clause-taken : goal.returns-in_err-heading-clause-taken
@@ -27,4 +27,4 @@ returns-clause-taken c =
     let is : item_or_fault heading_due (state_of old) (left c.args.reader.now) ≡ Ok (heading_line h) = heading_read (state_of old) (line_number c.args.reader.now) c.letter.result (left c.args.reader.now) h c.in_ok-heading.ensures.told in
     let ph : PhaseSound old.parts old.opened Heading = subst (PhaseSound old.parts old.opened) c.requires.phase c.requires.sound.phase in
     taken (item_or_fault heading_due (state_of old) (left c.args.reader.now)) (line_number c.args.reader.now) (heading_line h) old new Heading tt is c.requires.phase
-    (heading_step old.parts q old.opened h c.requires.sound.good ph (item_fits heading_due (state_of old) (left c.args.reader.now) (heading_line h) is) refl refl (λ k. same_rows old.parts q refl refl refl refl refl refl k) (subst (Bare old.parts) c.requires.phase c.requires.sound.bare))
+    (heading_step old.parts q old.opened h c.requires.sound.good ph (item_fits heading_due (state_of old) (left c.args.reader.now) (heading_line h) is) refl refl (λ k. same_rows old.parts q refl refl refl refl refl refl k) (λ k. same_atoms old.parts q refl refl refl k) (subst (Bare old.parts) c.requires.phase c.requires.sound.bare) (subst (Sized old.parts) c.requires.phase c.requires.sound.sized))

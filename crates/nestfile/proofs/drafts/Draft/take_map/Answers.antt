@@ -6,7 +6,7 @@ use Rattle.nestformat.specs.Due.{map_due, host_of}
 use Rattle.nestfile.specs.declared.drafts.Draft.{Draft}
 use Rattle.nestfile.specs.declared.drafts.Phase.TheVariants.{Map}
 use Rattle.nestfile.specs.LineItems.{item_or_fault}
-use Rattle.nestfile.specs.Drafts.{state_of, PhaseSound, Bare}
+use Rattle.nestfile.specs.Drafts.{state_of, PhaseSound, Bare, Sized}
 use Rattle.nestfile.proofs.RowLines.{map_read, map_unread}
 use Rattle.nestfile.proofs.Steps.{map_step, atoms_few, taken, refused, refused_result}
 use Rattle.nestfile.proofs.Turns.{told_same}
@@ -41,4 +41,4 @@ returns-clause-taken c =
     let is : item_or_fault (map_due e) (state_of old) (left c.args.reader.now) ≡ Ok (row_line zs) = map_read e (state_of old) (left c.args.reader.now) zs c.as_slice.result.now None read.0 read.1 c.as_slice.ensures c.in_default.ensures.refused in
     let ph : PhaseSound old.parts old.opened (Map e c.args.next) = subst (PhaseSound old.parts old.opened) c.requires.phase c.requires.sound.phase in
     taken (item_or_fault (map_due e) (state_of old) (left c.args.reader.now)) (line_number c.args.reader.now) (row_line zs) old new (Map e c.args.next) tt is c.requires.phase
-    (map_step old.parts q old.opened e c.args.next y zs c.requires.sound.good ph c.in_default.ensures.others (c.in_default.ensures.rows ∙ ap (λ x. x ∷ []) c.as_slice.ensures) c.in_default.ensures.clauses (c.in_default.ensures.ready refl) c.rows_left-self.ensures (subst (Bare old.parts) c.requires.phase c.requires.sound.bare))
+    (map_step old.parts q old.opened e c.args.next y zs c.requires.sound.good ph c.in_default.ensures.others (c.in_default.ensures.rows ∙ ap (λ x. x ∷ []) c.as_slice.ensures) c.in_default.ensures.clauses (c.in_default.ensures.ready refl) c.rows_left-self.ensures (subst (Bare old.parts) c.requires.phase c.requires.sound.bare) (subst (Sized old.parts) c.requires.phase c.requires.sound.sized))

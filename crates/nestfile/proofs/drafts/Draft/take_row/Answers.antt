@@ -8,7 +8,7 @@ use Rattle.nestfile.specs.declared.drafts.Draft.{Draft}
 use Rattle.nestfile.specs.declared.drafts.Phase.TheVariants.{Rows}
 use Rattle.nestfile.specs.Bodies.{rows_of, clauses_in}
 use Rattle.nestfile.specs.LineItems.{item_or_fault}
-use Rattle.nestfile.specs.Drafts.{state_of, clauses_opened, PhaseSound, Bare}
+use Rattle.nestfile.specs.Drafts.{state_of, clauses_opened, PhaseSound, Bare, Sized}
 use Rattle.nestfile.proofs.RowLines.{row_read, row_unread}
 use Rattle.nestfile.proofs.Steps.{row_step, atoms_few, taken, refused, refused_result}
 use Rattle.nestfile.proofs.Turns.{told_same}
@@ -44,4 +44,4 @@ returns-clause-taken c =
     let ph : PhaseSound old.parts old.opened (Rows e c.args.count c.args.next) = subst (PhaseSound old.parts old.opened) c.requires.phase c.requires.sound.phase in
     let is : item_or_fault (row_due e) (state_of old) (left c.args.reader.now) ≡ Ok (row_line zs) = row_read e (state_of old) (left c.args.reader.now) zs c.as_slice.result.now (clauses_in old.parts e.kind) None read.0 read.1 c.as_slice.ensures (ap (clauses_opened old.parts) (sym ph.opened)) c.in_default.ensures.refused in
     taken (item_or_fault (row_due e) (state_of old) (left c.args.reader.now)) (line_number c.args.reader.now) (row_line zs) old new (Rows e c.args.count c.args.next) tt is c.requires.phase
-    (row_step old.parts q old.opened e c.args.count c.args.next y zs c.requires.sound.good ph c.in_default.ensures.others (c.in_default.ensures.rows ∙ ap (λ x. rows_of old.parts e.kind ++ x ∷ []) c.as_slice.ensures) (c.in_default.ensures.clauses ∙ ap (λ x. clauses_in old.parts e.kind ++ x ∷ []) c.as_slice.ensures) c.in_default.ensures.ready c.rows_left-self.ensures (subst (Bare old.parts) c.requires.phase c.requires.sound.bare))
+    (row_step old.parts q old.opened e c.args.count c.args.next y zs c.requires.sound.good ph c.in_default.ensures.others (c.in_default.ensures.rows ∙ ap (λ x. rows_of old.parts e.kind ++ x ∷ []) c.as_slice.ensures) (c.in_default.ensures.clauses ∙ ap (λ x. clauses_in old.parts e.kind ++ x ∷ []) c.as_slice.ensures) c.in_default.ensures.ready c.rows_left-self.ensures (subst (Bare old.parts) c.requires.phase c.requires.sound.bare) (subst (Sized old.parts) c.requires.phase c.requires.sound.sized))
