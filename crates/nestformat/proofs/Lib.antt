@@ -1,4 +1,5 @@
 pub mod Examples
+pub mod KindLaws
 pub mod Backs
 pub mod Accepting
 pub mod Refusing
@@ -10,3 +11,4 @@ pub mod LawsStand
 pub mod Determined
 pub mod Earliness
 pub mod Causes
+pub mod ContentsCauses
