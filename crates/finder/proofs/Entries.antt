@@ -12,7 +12,7 @@ use Rattle.nestformat.specs.Kinds.{same_kind, has_clauses, atoms_in, in_ranges, 
 use Rattle.nestformat.specs.Items.{Body, contents_of}
 use Rattle.nestformat.specs.Bodies.{body_at, rows_at}
 use Rattle.nestformat.specs.Due.{listed, atoms_at}
-use Rattle.finder.proofs.KindLaws.{same_kind_is}
+use Rattle.nestformat.proofs.KindLaws.{same_kind_is}
 use Rattle.nestfile.specs.declared.Parts.{Parts}
 use Rattle.nestfile.specs.declared.Problem.{Problem as Held}
 use Rattle.nestfile.specs.Bodies.{rows_of, body_of}

@@ -1,4 +1,3 @@
-pub mod KindLaws
 pub mod Wholes
 pub mod Entries
 pub mod Reaches

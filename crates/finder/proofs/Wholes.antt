@@ -9,7 +9,7 @@ use Rattle.nestformat.specs.Kinds.{letter_of, same_kind, has_map, in_ranges}
 use Rattle.nestformat.specs.Items.{Item, heading_line, contents_line, body_line, row_line, Body, contents_of, body_items, items_of}
 use Rattle.nestformat.specs.Due.{Slot, contents_due, body_due, map_due, row_due, State, start, rows_due, bodies_due, advance, fits, in_order, is_map, well_formed, map_refusal, row_refusal}
 use Rattle.nestformat.specs.Reading.{whole}
-use Rattle.finder.proofs.KindLaws.{same_kind_is}
+use Rattle.nestformat.proofs.KindLaws.{same_kind_is}
 use Rattle.finder.specs.Bodies.{entry_at}
 
 -- what is right of rows

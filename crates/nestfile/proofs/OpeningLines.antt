@@ -16,7 +16,8 @@ use Rattle.nestformat.specs.Due.{body_due, State, as_written, is_map, kind_at, n
 use Rattle.nestfile.specs.Tokens.{is_word, is_bad, is_end, opening_if, opening_fault}
 use Rattle.nestfile.specs.LineItems.{item_of_opening, item_or_fault}
 use Rattle.nestfile.proofs.Places.{line_step, line_stop, bad_one, drop_two, at_next, place_is}
-use Rattle.nestfile.proofs.KindLaws.{kind_is, same_kind_is}
+use Rattle.nestformat.proofs.KindLaws.{same_kind_is}
+use Rattle.nestfile.proofs.KindLaws.{kind_is}
 
 abbrev wrong : Result Item LineFault
 wrong = Err (plain BadBody)

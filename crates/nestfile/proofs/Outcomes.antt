@@ -6,17 +6,18 @@ use Rattle.lexer.specs.Lines.{lines}
 use Rattle.nestformat.specs.declared.kinds.BodyKind.TheVariants.{Outer}
 use Rattle.nestformat.specs.declared.kinds.Contents.{Contents}
 use Rattle.nestformat.specs.Limits.{text_limit}
-use Rattle.nestformat.specs.Items.{Item, items_of}
+use Rattle.nestformat.specs.Items.{Item, Problem, items_of}
 use Rattle.nestformat.specs.Due.{State, start}
 use Rattle.nestformat.specs.Reading.{reading, reading_from, whole, finished}
 use Rattle.nestformat.specs.Laws.{Accepted, Faulty}
 use Rattle.nestformat.proofs.LawsStand.{whole_of, accepts, refuses}
+use Rattle.nestformat.proofs.Determined.{same_problem}
 use Rattle.nestfile.specs.declared.Problem.{Problem as Held}
 use Rattle.nestfile.specs.declared.drafts.Draft.{Draft}
 use Rattle.nestfile.specs.Bodies.{problem_of, bare, sized}
 use Rattle.nestfile.specs.Problems.{told, empty_problem}
 use Rattle.nestfile.specs.Drafts.{state_of, items_in, Sound, Answered}
-use Rattle.nestfile.specs.Read.{ReadAs, IsRead}
+use Rattle.nestfile.specs.Read.{ReadAs, IsRead, SpeltIsRead}
 use Rattle.nestfile.proofs.Endings.{is_whole, bare_whole, sized_whole}
 
 -- the lines of a text that is short enough are read from the first on
@@ -81,3 +82,13 @@ accepted t p h = (accepts t (told p)).0 (found (reading t) p h)
 
 pub faulty : (t : List ℕ) (f : Fault) → ReadAs (reading t) (Err f) → Faulty t f
 faulty t f h = (refuses t f).0 (fault (reading t) f h)
+
+-- two readings of a text are the same
+one_reading : (q : Result (List Item) Fault) (its jts : List Item) → q ≡ Ok its → q ≡ Ok jts → its ≡ jts
+one_reading q its jts h k = let e : Ok its ≡ Ok jts = sym h ∙ k in cc
+
+pub spelt_ok : {T : Type 0} (x : T) (t : List ℕ) (p : Held) → ReadAs (reading t) (Ok p) → SpeltIsRead t (Ok x) (told p)
+spelt_ok x t p h q a = (refl, same_problem q (told p) (one_reading (reading t) (items_of q) (items_of (told p)) ((accepts t q).1 a) (found (reading t) p h)))
+
+pub spelt_err : (T : Type 0) (t : List ℕ) (f : Fault) (p : Problem) → ReadAs (reading t) (Err f) → SpeltIsRead t {T = T} (Err f) p
+spelt_err T t f p h q a = let e : Ok (items_of q) ≡ Err f = sym ((accepts t q).1 a) ∙ fault (reading t) f h in cc

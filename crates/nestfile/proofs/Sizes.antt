@@ -16,7 +16,7 @@ use Rattle.nestformat.proofs.LawsStand.{right_of}
 use Rattle.nestfile.specs.declared.NestBody.{NestBody}
 use Rattle.nestfile.specs.declared.Parts.{Parts}
 use Rattle.nestfile.specs.Bodies.{rows_of, nest_rows, book_atoms, body_of, problem_of, bare, sized_at, sized}
-use Rattle.nestfile.proofs.KindLaws.{same_kind_is}
+use Rattle.nestformat.proofs.KindLaws.{same_kind_is}
 use Rattle.nestfile.proofs.Listing.{contents_back, unlisted}
 
 pub sized_from : (p : Parts) → ((k : BodyKind) → book_atoms p k ≡ atoms_at k (entries p.contents)) → sized p ≡ true

@@ -27,7 +27,7 @@ use Rattle.nestfile.specs.declared.due.Due.{Due}
 use Rattle.nestfile.specs.declared.due.Due.TheVariants.{Heading as HeadingDue, Contents as ContentsDue, Body as BodyDue, Map as MapDue, Row as RowDue, End as EndDue}
 use Rattle.nestfile.specs.Tokens.{heading_told, opening_fault, placed}
 use Rattle.nestfile.specs.Entries.{contents_told}
-use Rattle.nestfile.proofs.KindLaws.{same_kind_is}
+use Rattle.nestformat.proofs.KindLaws.{same_kind_is}
 use Rattle.nestfile.proofs.HeadingLines.{heading_judged}
 use Rattle.nestfile.proofs.EntryLines.{entry_judged}
 use Rattle.nestfile.proofs.OpeningLines.{opening_judged}

@@ -1,7 +1,8 @@
 -- What a reading leaves. Assumes nothing.
-use Rattle.std.specs.Prelude.{◌≡◌, List, Ok, Err, Result}
+use Rattle.std.specs.Prelude.{◌≡◌, ℕ, true, List, Ok, Err, Result, is_ok}
 use Rattle.refusals.specs.declared.Fault.{Fault}
 use Rattle.nestformat.specs.Items.{Item, Problem, items_of}
+use Rattle.nestformat.specs.Laws.{Accepted}
 use Rattle.nestfile.specs.declared.Problem.{Problem as Held}
 use Rattle.nestfile.specs.Problems.{told, empty_problem}
 
@@ -18,3 +19,7 @@ IsRead (Ok its) (Ok x) p = items_of p ≡ its
 IsRead (Ok its) (Err f) p = ⊥
 IsRead (Err f) (Ok x) p = ⊥
 IsRead (Err f) (Err g) p = (g ≡ f) × (p ≡ empty_problem)
+
+-- whatever problem the text spells is read, and is the one that is held: so it spells one at most
+abbrev pub SpeltIsRead : List ℕ → {T : Type 0} → Result T Fault → Problem → Type 0
+SpeltIsRead t r p = (q : Problem) → Accepted t q → (is_ok r ≡ true) × (q ≡ p)

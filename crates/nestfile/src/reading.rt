@@ -5,7 +5,7 @@ ghost use Rattle.nestformat.specs.Limits.{text_limit};
 ghost use Rattle.nestformat.specs.Reading.{accept, reading, reading_from, finished};
 ghost use Rattle.nestformat.specs.Laws.{Accepted, Faulty};
 ghost use Rattle.nestfile.specs.Problems.{told};
-ghost use Rattle.nestfile.specs.Read.{ReadAs, IsRead};
+ghost use Rattle.nestfile.specs.Read.{ReadAs, IsRead, SpeltIsRead};
 ghost use Rattle.nestfile.specs.Drafts.{state_of, items_in, Sound, LineTaken, Answered};
 
 use crate::Problem;
@@ -67,8 +67,10 @@ fn problem_of(text: &[u8]) -> Result<Problem, Fault>
 pub fn read(text: &[u8], problem: &mut Problem) -> Result<(), Fault>
     // What the format says of this text, exactly.
     ensures read { IsRead (reading text.now) result (told problem.new) }
-    // A text that is read spells just this problem.
+    // A text that is read spells the problem that is held afterwards.
     ensures accepted { IfOk result (λ _. Accepted text.now (told problem.new)) }
+    // Whatever problem a text spells is read, and is the one that is held: the text spells no other.
+    ensures spelt { SpeltIsRead text.now result (told problem.new) }
     // A text that is refused is too long, or its first faulty line is told.
     ensures refused { IfErr result (λ f. Faulty text.now f) }
 {

@@ -1,5 +1,5 @@
 -- What is written of an item that fits is read as that item. Assumes nothing.
-use Rattle.std.proofs.Common.{◌≡◌, ℕ, ◌≤◌, true, false, ◌&&◌, ◌⊎◌, List, [], ◌∷◌, ◌++◌, map, get_or, ℤ, pos, nat_abs, codes, decimal, is_none, unwrap_or, nat_le, refl, ap, ◌∙◌, ap₂, ⊎_elim, arith}
+use Rattle.std.proofs.Common.{◌≡◌, ℕ, ◌≤◌, true, false, ◌&&◌, ◌⊎◌, List, [], ◌∷◌, ◌++◌, map, get_or, ℤ, pos, nat_abs, codes, decimal, is_none, nat_le, refl, ap, ◌∙◌, ap₂, ⊎_elim, arith}
 use Rattle.std.specs.List.{AllByRecursion, list_all}
 use Rattle.std.specs.Fmt.{signed_decimal, digits}
 use Rattle.std.proofs.lemmas.Bool.{both_ways, and_from, and_parts, leb-true, le-leb, or_left, or_right, eq-eqb, ne_eqb}
@@ -12,10 +12,11 @@ use Rattle.nestformat.specs.declared.kinds.BodyKind.TheVariants.{Outer, Nest, Be
 use Rattle.nestformat.specs.declared.kinds.Contents.{Contents}
 use Rattle.nestformat.specs.declared.kinds.Heading.{Heading}
 use Rattle.nestformat.specs.Limits.{map_limit, body_limit, Range, from_to, within}
-use Rattle.nestformat.specs.Kinds.{letter_of, kind_named, size_range, own_range, rows_range, in_ranges, atoms_in, same_kind}
+use Rattle.nestformat.specs.Kinds.{letter_of, size_range, own_range, rows_range, in_ranges, atoms_in, same_kind}
 use Rattle.nestformat.specs.Items.{Item, heading_line, contents_line, body_line, row_line, item_line}
 use Rattle.nestformat.specs.Due.{Slot, heading_due, contents_due, body_due, map_due, row_due, State, fits_at, says, front, natural, in_row, is_map, form, well_formed, refusal_below, in_order}
 use Rattle.nestformat.specs.Reading.{of_sort, number_places, begins_row, skipped}
+use Rattle.nestformat.proofs.KindLaws.{kind_back}
 
 -- the line of an item that fits where x is due
 pub record Back (x : Slot) (it : Item) : Type 0 where
@@ -114,14 +115,6 @@ good_letter Lines = good_one 119 (solid 119 (omega arith) (omega arith))
 
 good_nest : Good (codes "nest")
 good_nest = (omega arith, (solid 110 (omega arith) (omega arith), (solid 101 (omega arith) (omega arith), (solid 115 (omega arith) (omega arith), (solid 116 (omega arith) (omega arith), tt)))))
-
-pub kind_back : (k : BodyKind) → unwrap_or (kind_named (letter_of k ∷ [])) Outer ≡ k
-kind_back Outer = refl
-kind_back Nest = refl
-kind_back Below = refl
-kind_back Loop = refl
-kind_back Milliamperes = refl
-kind_back Lines = refl
 
 -- heading, contents and body lines
 

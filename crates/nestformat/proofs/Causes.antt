@@ -21,7 +21,7 @@ RowPlace (map_due e) = Unit {0}
 RowPlace (row_due e) = Unit {0}
 RowPlace _ = ⊥
 
-cond_some : (b : Bool) (o : Option Refusal) (c : Refusal) → cond b o None ≡ Some c → (b ≡ true) × (o ≡ Some c)
+pub cond_some : (b : Bool) (o : Option Refusal) (c : Refusal) → cond b o None ≡ Some c → (b ≡ true) × (o ≡ Some c)
 cond_some true o c h = (refl, h)
 cond_some false o c h = cc
 

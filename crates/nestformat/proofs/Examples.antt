@@ -1,5 +1,5 @@
 -- The definitions, at texts. Assumes nothing.
-use Rattle.std.proofs.Common.{◌≡◌, ℕ, true, List, [], ◌∷◌, ◌++◌, replicate, pos, negsuc, Some, None, Ok, Err, codes, Option, Result, flat_map, refl, is_ok}
+use Rattle.std.proofs.Common.{◌≡◌, ℕ, true, List, [], ◌∷◌, ◌++◌, replicate, pos, negsuc, Some, None, Ok, Err, codes, Option, Result, flat_map, refl, is_ok, arith}
 use Rattle.std.specs.Fmt.{digits}
 use Rattle.refusals.specs.declared.Fault.{Fault}
 use Rattle.refusals.specs.declared.Refusal.{Refusal}
@@ -8,6 +8,7 @@ use Rattle.nestformat.specs.declared.kinds.BodyKind.TheVariants.{Outer, Nest, Be
 use Rattle.nestformat.specs.Items.{Item, Problem, items_of}
 use Rattle.nestformat.specs.Due.{start}
 use Rattle.nestformat.specs.Reading.{reading, written, whole}
+use Rattle.nestformat.specs.Earliest.{TooManyAtoms}
 
 -- a problem with each kind of body, and a text of it
 abbrev sample : Problem
@@ -96,6 +97,22 @@ many_own_atoms = refl
 pub few_atoms : reading (codes "p nest 1 2\nt o 0 0 0\nt n 201 -1 1\n") ≡ refused BadContents None 3 45
 unfolding digits
 few_atoms = refl
+
+pub many_atoms_before_nest : reading (codes "p nest 1 2\nt o 0 0 0\nt m 150 51 0\n") ≡ refused BadContents (Some CountOutOfRange) 3 45
+unfolding digits
+many_atoms_before_nest = refl
+
+pub many_signals : reading (codes "p nest 1 2\nt o 0 0 0\nt l 201 0 0\n") ≡ refused BadContents None 3 45
+unfolding digits
+many_signals = refl
+
+pub many_atoms_and_tokens : reading (codes "p nest 1 1\nt o 201 0 0 0\n") ≡ refused BadContents None 2 45
+unfolding digits
+many_atoms_and_tokens = refl
+
+pub many : TooManyAtoms (codes "t" ∷ codes "n" ∷ codes "200" ∷ codes "1" ∷ codes "-7" ∷ [])
+unfolding digits
+many = record { kind = Nest; numerals = codes "200" ∷ codes "1" ∷ codes "-7" ∷ []; size = pos 200; own = pos 1; rows = negsuc 6; atoms = 201; tokened = refl; numbers = refl; told = refl; many = omega arith }
 
 pub many_rows : reading (codes "p nest 1 1\nt o 200 0 501\n") ≡ refused BadContents None 2 45
 unfolding digits

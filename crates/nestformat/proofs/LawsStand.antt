@@ -1,8 +1,8 @@
 -- The laws hold. Assumes nothing.
-use Rattle.std.proofs.Common.{◌≡◌, ℕ, ◌<◌, ◌≤◌, true, false, List, length, Ok, Err, nat_lt, sym, ap, ◌∙◌, subst, inl, inr, ⊎_elim}
+use Rattle.std.proofs.Common.{◌≡◌, ℕ, ◌<◌, ◌≤◌, true, false, List, length, None, Ok, Err, nat_lt, sym, ap, ◌∙◌, subst, inl, inr, ⊎_elim}
 use Rattle.std.proofs.lemmas.Bool.{cond-true, cond-false, le-ltb, lt-ltb, ltb-true, ltb-false, cases_Bool}
 use Rattle.refusals.specs.declared.Fault.{Fault}
-use Rattle.refusals.specs.declared.Refusal.TheVariants.{TextTooLong}
+use Rattle.refusals.specs.declared.Refusal.TheVariants.{TextTooLong, BadContents, RowRefused}
 use Rattle.refusals.specs.Refusals.{outside}
 use Rattle.lexer.specs.Lines.{lines}
 use Rattle.nestformat.specs.Limits.{text_limit}
@@ -11,10 +11,11 @@ use Rattle.nestformat.specs.Due.{start}
 use Rattle.nestformat.specs.Reading.{reading, reading_from, whole}
 use Rattle.nestformat.specs.Refused.{Refused}
 use Rattle.nestformat.specs.Problems.{RightProblem}
-use Rattle.nestformat.specs.Laws.{Spelt, Accepts, ReadsProblems, Faulty, Refuses, ReadsBack, WrittenAlike, WholeProblems, AcceptsLines, EarliestFirst, RowCauses}
+use Rattle.nestformat.specs.Laws.{Spelt, Accepts, ReadsProblems, Faulty, Refuses, ReadsBack, WrittenAlike, WholeProblems, AcceptsLines, EarliestFirst, ContentsCauses, RowCauses, NoOtherCause, ToldApart}
 use Rattle.nestformat.proofs.Accepting.{accepted_line, spelled_line, accepted_short, short_accepted}
 use Rattle.nestformat.proofs.Earliness.{earliest}
 use Rattle.nestformat.proofs.Causes.{row_cause}
+use Rattle.nestformat.proofs.ContentsCauses.{contents_cause, refused_without}
 use Rattle.nestformat.proofs.Refusing.{read_is_refused, refused_is_read}
 use Rattle.nestformat.proofs.Round.{short_is_back}
 use Rattle.nestformat.proofs.Parts.{parts}
@@ -97,3 +98,17 @@ earliest_first = earliest
 
 pub row_causes : RowCauses
 row_causes = row_cause
+
+pub contents_causes : ContentsCauses
+contents_causes = contents_cause
+
+without : (t : List ℕ) (f : Fault) → (f.refusal ≡ BadContents → ⊥) → (f.refusal ≡ RowRefused → ⊥) → Faulty t f → f.cause ≡ None
+without t f h r = ⊎_elim
+    (λ (l : (text_limit < length t) × (f ≡ outside TextTooLong)). ap (λ d. d.cause) l.1)
+    (λ (s : (length t ≤ text_limit) × Refused start 1 (lines t) f). refused_without start 1 (lines t) f h r s.1)
+
+pub no_other_cause : NoOtherCause
+no_other_cause t f e h r = without t f h r (faulty t f e)
+
+pub told_apart : ToldApart
+told_apart = same_problem

@@ -1,4 +1,5 @@
 pub mod Examples
+pub mod KindLaws
 pub mod Backs
 pub mod Accepting
 pub mod Refusing
@@ -11,3 +12,4 @@ pub mod Determined
 pub mod Earliness
 pub mod Causes
 pub mod Bodies
+pub mod ContentsCauses

@@ -1,5 +1,5 @@
 -- The items of a whole reading are those of a problem that is right. Assumes nothing.
-use Rattle.std.proofs.Common.{◌≡◌, ℕ, zero, suc, ◌+◌, ◌-◌, ◌≤◌, Bool, true, false, cond, ◌&&◌, List, [], ◌∷◌, ◌++◌, map, flat_map, length, drop, replicate, ℤ, Some, None, is_none, unwrap_or, nat_lt, nat_le, append_assoc, length-append, sym, refl, ap, ◌∙◌, subst, ap₂, arith}
+use Rattle.std.proofs.Common.{◌≡◌, ℕ, zero, suc, ◌+◌, ◌-◌, ◌≤◌, Bool, true, false, cond, ◌&&◌, List, [], ◌∷◌, ◌++◌, map, flat_map, length, drop, replicate, ℤ, Some, None, is_none, nat_lt, nat_le, append_assoc, length-append, sym, refl, ap, ◌∙◌, subst, ap₂, arith}
 use Rattle.std.specs.List.{AllByRecursion, list_all}
 use Rattle.std.proofs.lemmas.Bool.{both_ways, and_from, and_parts, leb-true, ltb-true, eqb-true, cond-true, cond-false}
 use Rattle.refusals.specs.declared.Refusal.{Refusal}
@@ -11,12 +11,13 @@ use Rattle.nestformat.specs.declared.kinds.BodyKind.TheVariants.{Outer, Nest, Be
 use Rattle.nestformat.specs.declared.kinds.Contents.{Contents}
 use Rattle.nestformat.specs.declared.kinds.Heading.{Heading}
 use Rattle.nestformat.specs.Limits.{body_limit, from_to, within}
-use Rattle.nestformat.specs.Kinds.{letter_of, kind_named, same_kind, has_clauses, has_map, rows_range, atoms_in, in_ranges}
+use Rattle.nestformat.specs.Kinds.{same_kind, has_clauses, has_map, rows_range, atoms_in, in_ranges}
 use Rattle.nestformat.specs.Items.{Item, heading_line, contents_line, body_line, row_line, Body, Problem, contents_of, body_items, items_of}
 use Rattle.nestformat.specs.Due.{Slot, contents_due, body_due, map_due, row_due, State, start, due, rows_due, bodies_due, or_bodies, clauses_with, advance, fits, fits_at, in_order, in_row, atoms_at, first_is_atom, form, well_formed, unless_out, map_refusal, row_refusal, is_map}
 use Rattle.nestformat.specs.Reading.{finished, whole}
 use Rattle.nestformat.specs.Problems.{contents_right, RightClauses, RightNest, RightRow, RightRows, RightBody, RightProblem}
-use Rattle.nestformat.proofs.Backs.{kind_back, contents_small}
+use Rattle.nestformat.proofs.KindLaws.{same_kind_is}
+use Rattle.nestformat.proofs.Backs.{contents_small}
 
 -- the items that are left are whole where ys is due
 pub record Rest (s : State) (ys : List Slot) (tail : List Item) : Type 0 where
@@ -194,9 +195,6 @@ body_taken Milliamperes e q h ys s its c t w = plain_body e ys s its (ap has_map
 body_taken Lines e q h ys s its c t w = plain_body e ys s its (ap has_map (sym q)) c (λ rows d. subst (λ k. RightRows k s.contents e rows) q (rows_right e s.contents [] rows (ap has_clauses (sym q)) d)) t w
 
 -- the bodies
-
-pub same_kind_is : (j k : BodyKind) → same_kind j k ≡ true → j ≡ k
-same_kind_is j k h = sym (kind_back j) ∙ ap (λ l. unwrap_or (kind_named (l ∷ [])) Outer) (eqb-true (letter_of j) (letter_of k) h) ∙ kind_back k
 
 pub record BodiesTaken (es : List Contents) (s : State) (its : List Item) : Type 0 where
   pub bodies : List Body

@@ -1,10 +1,13 @@
 -- Which refusals apply to a line that counts, apart from the order in which a line is judged. Assumes nothing.
-use Rattle.std.specs.Prelude.{◌≡◌, ℕ, ◌≤◌, true, false, cond, List, ℤ, Some, Option}
+use Rattle.std.specs.Prelude.{◌≡◌, ℕ, ◌<◌, ◌≤◌, true, false, cond, List, [], ◌∷◌, map, ℤ, pos, codes, Some, Option}
 use Rattle.refusals.specs.declared.Refusal.{Refusal}
-use Rattle.refusals.specs.declared.Refusal.TheVariants.{BadByte, BadNumber, BadHeading, BadContents, BadBody, RowRefused, BadEnd}
+use Rattle.refusals.specs.declared.Refusal.TheVariants.{CountOutOfRange, BadByte, BadNumber, BadHeading, BadContents, BadBody, RowRefused, BadEnd}
 use Rattle.refusals.specs.Refusals.{number_of}
+use Rattle.assignments.specs.Limits.{atom_limit}
 use Rattle.lexer.specs.Lines.{tokens, lead, clean}
-use Rattle.lexer.specs.Numbers.{all_numbers}
+use Rattle.lexer.specs.Numbers.{number, all_numbers}
+use Rattle.nestformat.specs.declared.kinds.BodyKind.{BodyKind}
+use Rattle.nestformat.specs.Kinds.{letter_of, atoms_told}
 use Rattle.nestformat.specs.Items.{Item, row_line, item_line}
 use Rattle.nestformat.specs.Due.{Slot, heading_due, contents_due, body_due, map_due, row_due, end_due, State, due, fits, well_formed, refusal_below}
 use Rattle.nestformat.specs.Reading.{begins_row, of_sort, number_places}
@@ -37,3 +40,21 @@ pub record IsEarliest (s : State) (l : List ℕ) (r : Refusal) : Type 0 where
 pub record RowCause (x : Slot) (s : State) (ts : List (List ℕ)) (cause : Option Refusal) : Type 0 where
   pub told : (zs : List ℤ) → ts ≡ item_line (row_line zs) → well_formed x zs ≡ true → cause ≡ refusal_below x s zs
   pub only : (c : Refusal) → cause ≡ Some c → (zs : List ℤ) × (ts ≡ item_line (row_line zs)) × (well_formed x zs ≡ true) × (refusal_below x s zs ≡ Some c)
+
+-- the tokens are t, a kind and three numbers, and the first two of these tell more atoms than there may be
+pub record TooManyAtoms (ts : List (List ℕ)) : Type 0 where
+  pub kind : BodyKind
+  pub numerals : List (List ℕ)
+  pub size : ℤ
+  pub own : ℤ
+  pub rows : ℤ
+  pub atoms : ℕ
+  pub tokened : ts ≡ codes "t" ∷ (letter_of kind ∷ []) ∷ numerals
+  pub numbers : map number numerals ≡ Some size ∷ Some own ∷ Some rows ∷ []
+  pub told : atoms_told kind size own ≡ pos atoms
+  pub many : atom_limit < atoms
+
+-- the cause of a refused contents line with these tokens: count out of range where there are too many atoms, else none
+pub record ContentsCause (ts : List (List ℕ)) (cause : Option Refusal) : Type 0 where
+  pub told : TooManyAtoms ts → cause ≡ Some CountOutOfRange
+  pub only : (c : Refusal) → cause ≡ Some c → (c ≡ CountOutOfRange) × TooManyAtoms ts

@@ -1,8 +1,8 @@
 -- The laws of reading and writing. Assumes nothing.
-use Rattle.std.specs.Prelude.{◌≡◌, ℕ, ◌<◌, ◌≤◌, true, ◌⊎◌, ◌↔◌, List, map, length, Ok, Err}
+use Rattle.std.specs.Prelude.{◌≡◌, ℕ, ◌<◌, ◌≤◌, true, ◌⊎◌, ◌↔◌, List, map, length, Ok, Err, None}
 use Rattle.std.specs.List.{AllByRecursion}
 use Rattle.refusals.specs.declared.Fault.{Fault}
-use Rattle.refusals.specs.declared.Refusal.TheVariants.{TextTooLong, RowRefused}
+use Rattle.refusals.specs.declared.Refusal.TheVariants.{TextTooLong, BadContents, RowRefused}
 use Rattle.refusals.specs.Refusals.{outside}
 use Rattle.lexer.specs.Lines.{lines, tokens, clean}
 use Rattle.nestformat.specs.declared.faults.LineFault.{LineFault}
@@ -11,7 +11,7 @@ use Rattle.nestformat.specs.Items.{Item, item_line, Problem, items_of}
 use Rattle.nestformat.specs.Due.{State, start, due}
 use Rattle.nestformat.specs.Reading.{accept, reading, counted, whole, written}
 use Rattle.nestformat.specs.Refused.{Refused}
-use Rattle.nestformat.specs.Earliest.{SaysRight, IsEarliest, RowCause}
+use Rattle.nestformat.specs.Earliest.{SaysRight, IsEarliest, RowCause, ContentsCause}
 use Rattle.nestformat.specs.Problems.{RightProblem}
 
 -- t is short enough, has only allowed bytes outside comments, and its lines of tokens, comments and blank lines left out, are those of the items
@@ -44,9 +44,17 @@ Refuses = (t : List ℕ) (f : Fault) → reading t ≡ Err f ↔ Faulty t f
 abbrev pub ReadsBack : Type 0
 ReadsBack = (p : Problem) → RightProblem p → (length (written (items_of p)) ≤ text_limit) × (reading (written (items_of p)) ≡ Ok (items_of p))
 
--- texts of one problem have the same lines of tokens: those that are written of it
+-- the items of a problem tell it from every other
+abbrev pub ToldApart : Type 0
+ToldApart = (p q : Problem) → items_of p ≡ items_of q → p ≡ q
+
+-- the two texts have the same lines of tokens, comments and blank lines left out
+abbrev pub Alike : List ℕ → List ℕ → Type 0
+Alike t u = map tokens (counted (lines t)) ≡ map tokens (counted (lines u))
+
+-- texts of one problem have the same lines of tokens
 abbrev pub WrittenAlike : Type 0
-WrittenAlike = (t u : List ℕ) (its : List Item) → reading t ≡ Ok its → reading u ≡ Ok its → map tokens (counted (lines t)) ≡ map tokens (counted (lines u))
+WrittenAlike = (t u : List ℕ) (its : List Item) → reading t ≡ Ok its → reading u ≡ Ok its → Alike t u
 
 -- the items of a problem of the format are whole, and whole items are those of such a problem
 abbrev pub WholeProblems : Type 0
@@ -60,6 +68,14 @@ AcceptsLines = (s : State) (l : List ℕ) (it : Item) → accept s l ≡ Ok it �
 abbrev pub EarliestFirst : Type 0
 EarliestFirst = (s : State) (l : List ℕ) (e : LineFault) → accept s l ≡ Err e → IsEarliest s l e.refusal
 
+-- a refused line of the contents has the cause that its numbers have
+abbrev pub ContentsCauses : Type 0
+ContentsCauses = (s : State) (l : List ℕ) (e : LineFault) → accept s l ≡ Err e → e.refusal ≡ BadContents → ContentsCause (tokens l) e.cause
+
 -- a refused row has the cause that what it says has
 abbrev pub RowCauses : Type 0
 RowCauses = (s : State) (l : List ℕ) (e : LineFault) → accept s l ≡ Err e → e.refusal ≡ RowRefused → RowCause (due s.todo) s (tokens l) e.cause
+
+-- no other refusal of a text has a cause
+abbrev pub NoOtherCause : Type 0
+NoOtherCause = (t : List ℕ) (f : Fault) → reading t ≡ Err f → (f.refusal ≡ BadContents → ⊥) → (f.refusal ≡ RowRefused → ⊥) → f.cause ≡ None

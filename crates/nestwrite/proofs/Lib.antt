@@ -1,2 +1,3 @@
 pub mod Many
 pub mod Wholes
+pub mod ReadBack
