@@ -23,16 +23,6 @@ fn answer(rt: &HostRuntime, text: &[u8]) -> io::Result<ExitCode> {
     }
 }
 
-fn answer_to_file(rt: &HostRuntime, path: &str) -> io::Result<ExitCode> {
-    match fs::read(rt, path) {
-        Ok(text) => answer(rt, text.as_slice()),
-        Err(error) => {
-            eprintln!(rt; "settle: {path}: {error}")?;
-            Ok(ExitCode::from(NO_ANSWER))
-        }
-    }
-}
-
 fn run(rt: &HostRuntime) -> io::Result<ExitCode> {
     let mut arguments = env::args(rt)?;
     let path = arguments.nth(1);
@@ -40,9 +30,16 @@ fn run(rt: &HostRuntime) -> io::Result<ExitCode> {
         eprintln!(rt; "usage: settle [FILE]")?;
         return Ok(ExitCode::from(NO_ANSWER));
     }
-    match path {
-        Some(path) => answer_to_file(rt, path.as_str()),
-        None => answer(rt, input_of(rt)?.as_slice()),
+    let (name, text) = match &path {
+        Some(path) => (path.as_str(), fs::read(rt, path.as_str())),
+        None => ("standard input", input_of(rt)),
+    };
+    match text {
+        Ok(text) => answer(rt, text.as_slice()),
+        Err(error) => {
+            eprintln!(rt; "settle: {name}: {error}")?;
+            Ok(ExitCode::from(NO_ANSWER))
+        }
     }
 }
 
