@@ -1,10 +1,8 @@
-// Compares what is listed of each nest file of a folder with the text beside it, and ends with an error where one differs.
+// Compares what is printed of each nest file of a folder with the text beside it, and ends with an error where one differs.
 #![tactic(auto)]
 
-mod listed;
-
-use crate::listed::listed;
 use anyhow::anyhow;
+use printing::print_answer;
 use std::{env, fs};
 
 // Where the files lie, if no argument says so.
@@ -23,12 +21,13 @@ fn names_in(rt: &HostRuntime, folder: &str) -> anyhow::Result<Vec<String>> {
     Ok(names)
 }
 
-// Whether the text beside the nest file of this path without its suffix is what is listed of it.
+// Whether the text beside the nest file of this path without its suffix is what is printed of it.
 fn agrees(rt: &HostRuntime, path: &str) -> anyhow::Result<bool> {
     let text = fs::read(rt, format!(in rt.alloc(); "{path}.nest")?.as_str())?;
     let wanted = fs::read(rt, format!(in rt.alloc(); "{path}.out")?.as_str())?;
-    let listed = listed(rt.alloc(), text.as_slice())?;
-    Ok(listed.as_bytes() == wanted.as_slice())
+    let mut printed = Vec::new(rt.alloc());
+    print_answer(text.as_slice(), &mut printed)?;
+    Ok(printed.as_slice() == wanted.as_slice())
 }
 
 fn compare(rt: &HostRuntime, folder: &str) -> anyhow::Result<()> {

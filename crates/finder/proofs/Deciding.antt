@@ -23,7 +23,7 @@ load_decides : (join : ℕ → ℕ → ℕ) (over : ℕ → ℕ → Bool) (limit
 load_decides join over limit None q = (λ h. both_ways false refl h, λ h. absurd h)
 load_decides join over limit (Some x) q = (λ h. h, λ h. h)
 
-file_decides : (p : Problem) (q : List ℕ) → Decides ((file_means p).speaks q) (Vetoed p q)
+pub file_decides : (p : Problem) (q : List ℕ) → Decides ((file_means p).speaks q) (Vetoed p q)
 file_decides p q =
     Decides-or ((nests_mean p).speaks q) _ (nest_decides (body_at Nest p.bodies) (below_means p) q)
     (Decides-or ((loop_means p).speaks q) _ (cyclic_decides (map arc_in (rows_at Loop p.bodies)) q)

@@ -1,7 +1,7 @@
 -- A session of a size, and a clause more of those that fit. Assumes nothing.
-use Rattle.std.proofs.Common.{◌≡◌, ℕ, ◌≤◌, Bool, true, false, cond, ◌||◌, List, [], ◌∷◌, ◌++◌, ℤ, Result, Ok, Err, Option, Some, None, is_ok, is_none, nat_lt, sym, refl, ap, ◌∙◌, subst, append_assoc, append-nil}
+use Rattle.std.proofs.Common.{◌≡◌, ℕ, ◌≤◌, true, false, cond, List, [], ◌∷◌, ◌++◌, ℤ, Result, Ok, Err, Option, Some, None, is_ok, is_none, nat_lt, sym, refl, ap, ◌∙◌, subst, append_assoc, append-nil, ⊎_elim}
 use Rattle.std.specs.Prelude.{◌↔◌}
-use Rattle.std.proofs.lemmas.Bool.{both_ways, and_parts, cond-false, le-ltb, or_parts}
+use Rattle.std.proofs.lemmas.Bool.{both_ways, cases_Bool, and_parts, cond-false, le-ltb}
 use Rattle.refusals.specs.declared.Refusal.{Refusal}
 use Rattle.refusals.specs.declared.Refusal.TheVariants.{CountOutOfRange, ReachOutOfRange}
 use Rattle.assignments.specs.Limits.{atom_limit}
@@ -16,8 +16,10 @@ use Rattle.session.specs.Standing.{Stands, Keeps, done}
 use Rattle.nestformat.specs.Items.{Problem}
 use Rattle.finder.specs.Bodies.{atoms_of}
 use Rattle.finder.specs.Fitting.{fit}
-use Rattle.finder.specs.Meanings.{nests_mean, loop_means, milliamperes_mean, lines_mean, file_means, AdmittedBy}
+use Rattle.finder.specs.Meanings.{file_means}
 use Rattle.finder.specs.Sessions.{started, file_ledger}
+use Rattle.finder.specs.Vetoed.{AdmittedBy}
+use Rattle.finder.proofs.Deciding.{file_decides}
 
 pub none_is : (o : Option Refusal) → is_none o ≡ true → o ≡ None
 none_is None h = refl
@@ -83,24 +85,11 @@ same_size n k h = cc
 admitted : (p : Problem) (q : List ℕ) → Admitted (file_means p) (file_ledger p) q → AdmittedBy p q
 admitted p q a =
     let n : atoms_of p ≡ a.n = same_size (atoms_of p) a.n a.sized in
-    let x = or_parts ((nests_mean p).speaks q) ((loop_means p).speaks q || ((milliamperes_mean p).speaks q || (lines_mean p).speaks q)) a.silent in
-    let y = or_parts ((loop_means p).speaks q) ((milliamperes_mean p).speaks q || (lines_mean p).speaks q) x.1 in
-    let z = or_parts ((milliamperes_mean p).speaks q) ((lines_mean p).speaks q) y.1 in
     record {
       complete = subst (λ k. Complete k q) (sym n) a.complete;
       meets = a.meets;
-      nests = x.0;
-      loop = y.0;
-      milliamperes = z.0;
-      lines = z.1;
+      unvetoed = λ v. both_ways ((file_means p).speaks q) a.silent ((file_decides p q).1 v);
     }
-
-none_speaks : (a b c d : Bool) → a ≡ false → b ≡ false → c ≡ false → d ≡ false → (a || (b || (c || d))) ≡ false
-none_speaks false false false false a b c d = refl
-none_speaks true b c d h i j k = absurd (both_ways true h refl)
-none_speaks false true c d h i j k = absurd (both_ways true i refl)
-none_speaks false false true d h i j k = absurd (both_ways true j refl)
-none_speaks false false false true h i j k = absurd (both_ways true k refl)
 
 admits : (p : Problem) (q : List ℕ) → AdmittedBy p q → Admitted (file_means p) (file_ledger p) q
 admits p q a = record {
@@ -108,7 +97,10 @@ admits p q a = record {
   sized = refl;
   complete = a.complete;
   meets = a.meets;
-  silent = none_speaks ((nests_mean p).speaks q) ((loop_means p).speaks q) ((milliamperes_mean p).speaks q) ((lines_mean p).speaks q) a.nests a.loop a.milliamperes a.lines;
+  silent = ⊎_elim
+      (λ (t : (file_means p).speaks q ≡ true). absurd (a.unvetoed ((file_decides p q).0 t)))
+      (λ (f : (file_means p).speaks q ≡ false). f)
+      (cases_Bool ((file_means p).speaks q));
 }
 
 pub same_admitted : (p : Problem) (m : Meaning) → m ≡ file_means p → (q : List ℕ) → SameAdmitted p m q

@@ -6,7 +6,7 @@ use Rattle.refusals.specs.declared.Refusal.{Refusal}
 use Rattle.clauses.specs.Adding.{refusal_of_adding}
 use Rattle.vetoes.specs.Meaning.{Meaning, either}
 use Rattle.nested.specs.Nests.{Plan, nest_means}
-use Rattle.nested.specs.Shaping.{refusal_of_clause, with_clause}
+use Rattle.nested.specs.Shaping.{refusal_of_shaping, refusal_of_clause, with_clause}
 use Rattle.nestformat.specs.Items.{Body}
 use Rattle.finder.specs.Meanings.{plan_in}
 use Rattle.finder.specs.Fitting.{fit, with_all}
@@ -47,6 +47,10 @@ added_all m k plan all rest q h = h.is ∙ ap (λ x. Some (with_all m k x)) (sym
 -- an error that is none
 pub no_error : {A : Type 0} (r : Result A Refusal) (e : Refusal) (o : Option Refusal) → r ≡ Err e → result_err r ≡ o → o ≡ None → ⊥
 no_error r e o q h n = let s : Some e ≡ None = sym (ap result_err q) ∙ h ∙ n in absurd (cc)
+
+-- a nest that is described is not refused
+pub not_refused_over : (o : Option Body) (s r k : ℕ) (m xs : List ℕ) (cs : List (List ℤ)) → Described o r m k cs → s ≡ r → xs ≡ m → (refusal_of_shaping s xs k ≡ None) × (fit (length xs + k) [] cs ≡ true)
+not_refused_over o s r k m xs cs d p q = (ap₂ (λ (n : ℕ) (z : List ℕ). refusal_of_shaping n z k) p q ∙ d.shape, ap (λ z. fit (length z + k) [] cs) q ∙ d.fits)
 
 -- the nests mean what the file says
 

@@ -1,7 +1,5 @@
 -- What the bodies of a problem mean. Assumes nothing.
-use Rattle.std.specs.Prelude.{◌≡◌, ℕ, ◌-◌, ◌^◌, false, true, List, [], ◌∷◌, map, ℤ, Option, Some, None}
-use Rattle.assignments.specs.Assignments.{Complete}
-use Rattle.assignments.specs.Literals.{all_met}
+use Rattle.std.specs.Prelude.{ℕ, ◌-◌, ◌^◌, List, [], ◌∷◌, map, ℤ, Option, Some, None}
 use Rattle.vetoes.specs.Meaning.{Meaning, silent, either}
 use Rattle.cycles.specs.declared.arc.Arc.{Arc}
 use Rattle.cycles.specs.Cyclic.{cycle_means}
@@ -14,7 +12,6 @@ use Rattle.nestformat.specs.declared.kinds.BodyKind.TheVariants.{Nest, Below, Lo
 use Rattle.nestformat.specs.Items.{Body, Problem}
 use Rattle.nestformat.specs.Due.{natural}
 use Rattle.nestformat.specs.Bodies.{body_at, rows_at}
-use Rattle.finder.specs.Bodies.{atoms_of, clauses_of}
 
 -- a nest's first row is its map, the others are its clauses; the second number of its contents line counts its own atoms
 abbrev pub plan_with : ℕ → List (List ℤ) → Plan
@@ -70,12 +67,3 @@ lines_mean p = load_means 0 union wider (loads_in lowest_lines (body_at Lines p.
 -- what the file vetoes: where the nests, the loop or one of the loads speaks
 abbrev pub file_means : Problem → Meaning
 file_means p = either (nests_mean p) (either (loop_means p) (either (milliamperes_mean p) (lines_mean p)))
-
--- the settings of the file: complete, they meet every clause that is held, and nothing speaks
-pub record AdmittedBy (p : Problem) (q : List ℕ) : Type 0 where
-  pub complete : Complete (atoms_of p) q
-  pub meets : all_met q (clauses_of p) ≡ true
-  pub nests : (nests_mean p).speaks q ≡ false
-  pub loop : (loop_means p).speaks q ≡ false
-  pub milliamperes : (milliamperes_mean p).speaks q ≡ false
-  pub lines : (lines_mean p).speaks q ≡ false

@@ -1,5 +1,7 @@
--- Where a file vetoes an assignment, body by body. Assumes nothing.
+-- Where a file vetoes an assignment, body by body, and which ones it admits. Assumes nothing.
 use Rattle.std.specs.Prelude.{◌≡◌, ℕ, Bool, true, ◌⊎◌, List, map, Option, Some, None}
+use Rattle.assignments.specs.Assignments.{Complete}
+use Rattle.assignments.specs.Literals.{all_met}
 use Rattle.vetoes.specs.Meaning.{Meaning}
 use Rattle.cycles.specs.Graphs.{Closed}
 use Rattle.loads.specs.Kinds.{sum, more, union, wider}
@@ -8,6 +10,7 @@ use Rattle.nested.specs.Nests.{Stalls}
 use Rattle.nestformat.specs.declared.kinds.BodyKind.TheVariants.{Nest, Loop, Milliamperes, Lines}
 use Rattle.nestformat.specs.Items.{Body, Problem}
 use Rattle.nestformat.specs.Bodies.{body_at, rows_at}
+use Rattle.finder.specs.Bodies.{atoms_of, clauses_of}
 use Rattle.finder.specs.Meanings.{plan_with, below_means, arc_in, load_in, milliamperes, lowest_lines}
 
 -- the nest over the veto b: every seen atom that b looks at is known, and the own atoms can be given values so that every
@@ -32,3 +35,9 @@ Vetoed p q =
     ⊎ (LoopVetoes p q
     ⊎ (LoadVetoes sum more milliamperes (body_at Milliamperes p.bodies) q
     ⊎ LoadVetoes union wider lowest_lines (body_at Lines p.bodies) q))
+
+-- the settings of the file: complete, they meet every clause that is held, and no body speaks
+pub record AdmittedBy (p : Problem) (q : List ℕ) : Type 0 where
+  pub complete : Complete (atoms_of p) q
+  pub meets : all_met q (clauses_of p) ≡ true
+  pub unvetoed : Vetoed p q → ⊥

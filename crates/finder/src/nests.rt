@@ -1,5 +1,5 @@
 // The nests of a problem, each over a veto below.
-ghost use Rattle.std.specs.Prelude.{◌≡◌, ◌+◌, [], true, length, Some, None};
+ghost use Rattle.std.specs.Prelude.{◌≡◌, ℕ, ◌+◌, List, [], true, length, Some, None, IfOk, IsOk, IsOkAnd};
 ghost use Rattle.tables.specs.Items.{entries};
 ghost use Rattle.clauses.specs.Books.{clauses_of};
 ghost use Rattle.nested.specs.Plans.{plan_of};
@@ -14,37 +14,35 @@ use clauses::book::ClauseBook;
 use nested::nested::Nested;
 use nestfile::Problem;
 use nestformat::kinds::BodyKind;
+use refusals::Refusal;
 use vetoes::mute::Mute;
 use vetoes::veto::Veto;
 
 // Adds every clause of the book to a nest that has no clauses.
-fn add_all<V: Veto>(nest: &mut Nested<V>, map: &[AtomNumber], own: usize, book: &ClauseBook)
-    requires shape { plan_of nest.old.shape ≡ Some (shaped map.now own) }
-    requires fits { fit (length map.now + own) [] (clauses_of book.now) ≡ true }
+fn add_all<V: Veto>(nest: &mut Nested<V>, book: &ClauseBook) -> Result<(), Refusal>
     ensures below { nest.new.below ≡ nest.old.below }
-    ensures plan { plan_of nest.new.shape ≡ Some (with_all map.now own (clauses_of book.now)) }
+    ensures plan { (m : List ℕ) (k : ℕ) → plan_of nest.old.shape ≡ Some (shaped m k) → fit (length m + k) [] (clauses_of book.now) ≡ true → IsOk result × (plan_of nest.new.shape ≡ Some (with_all m k (clauses_of book.now))) }
 {
     for clause in book.clauses() {
-        match nest.add(clause) {
-            Ok(()) => {}
-            Err(_) => unreachable!(),
-        }
+        nest.add(clause)?;
     }
+    Ok(())
 }
 
 // A nest over the veto with this map, own atoms and clauses.
-fn shaped<V: Veto + Drop>(below: V, map: &[AtomNumber], own: usize, book: &ClauseBook) -> Nested<V>
-    requires shape { refusal_of_shaping (V.Veto.means below).reach map.now own ≡ None }
-    requires fits { fit (length map.now + own) [] (clauses_of book.now) ≡ true }
-    ensures below { result.below ≡ below }
-    ensures plan { plan_of result.shape ≡ Some (with_all map.now own (clauses_of book.now)) }
+fn shaped<V: Veto + Drop>(
+    below: V,
+    map: &[AtomNumber],
+    own: usize,
+    book: &ClauseBook,
+) -> Result<Nested<V>, Refusal>
+    ensures below { IfOk result (λ nest. nest.below ≡ below) }
+    ensures plan { refusal_of_shaping (V.Veto.means below).reach map.now own ≡ None → fit (length map.now + own) [] (clauses_of book.now) ≡ true → IsOkAnd result (λ nest. plan_of nest.shape ≡ Some (with_all map.now own (clauses_of book.now))) }
 {
     let mut nest = Nested::new(below);
-    match nest.shape(map, own) {
-        Ok(()) => add_all(&mut nest, map, own, book),
-        Err(_) => unreachable!(),
-    }
-    nest
+    nest.shape(map, own)?;
+    add_all(&mut nest, book)?;
+    Ok(nest)
 }
 
 // The nest below the other. Where the contents name none it never speaks.
@@ -54,9 +52,12 @@ fn below_of(problem: &Problem) -> Nested<Mute>
     let Some(entry) = entry_of(problem.contents(), BodyKind::Below) else {
         return Nested::new(Mute);
     };
-    match problem.below() {
-        Some(body) => shaped(Mute, body.map.as_slice(), entry.own as usize, &body.book),
-        None => unreachable!(),
+    let Some(body) = problem.below() else {
+        unreachable!()
+    };
+    match shaped(Mute, body.map.as_slice(), entry.own as usize, &body.book) {
+        Ok(nest) => nest,
+        Err(_) => unreachable!(),
     }
 }
 
@@ -68,8 +69,11 @@ pub(crate) fn nests_of(problem: &Problem) -> Nested<Nested<Mute>>
     let Some(entry) = entry_of(problem.contents(), BodyKind::Nest) else {
         return Nested::new(below);
     };
-    match problem.nest() {
-        Some(body) => shaped(below, body.map.as_slice(), entry.own as usize, &body.book),
-        None => unreachable!(),
+    let Some(body) = problem.nest() else {
+        unreachable!()
+    };
+    match shaped(below, body.map.as_slice(), entry.own as usize, &body.book) {
+        Ok(nest) => nest,
+        Err(_) => unreachable!(),
     }
 }

@@ -1,8 +1,13 @@
 // One line of a listing, and its text.
-ghost use Rattle.std.specs.Prelude.{Some, flat_map};
-ghost use Rattle.listing.specs.Lines.{said, text, word};
+ghost use Rattle.std.specs.Prelude.{◌≡◌, Some, None, cond, IfOk, length, flat_map, nat_lt};
+ghost use Rattle.std.specs.Result.{result_err};
+ghost use Rattle.assignments.specs.Limits.{atom_limit};
+ghost use Rattle.listing.specs.Lines.{said, setting as «setting-line», text, word};
+ghost use Rattle.listing.specs.Settings.{literals as «literals-of»};
 
+use crate::literals::literals_of;
 use assignments::{ATOM_LIMIT, Literal};
+use refusals::Refusal;
 use std::fmt;
 use tables::Table;
 
@@ -16,6 +21,19 @@ pub enum Line {
     End(usize),
     // so many are given, and there are more
     More(usize),
+}
+
+impl Line {
+    // The line of an assignment: atom k on where its byte is 1, else off. Of more than 200 bytes it is refused.
+    pub fn setting(assignment: &[u8]) -> Result<Line, Refusal>
+        ensures refused { result_err result ≡ cond (nat_lt atom_limit (length assignment.now)) (Some Refusal.CountOutOfRange) None }
+        ensures says { IfOk result (λ line. said line ≡ «setting-line» («literals-of» assignment.now)) }
+    {
+        if assignment.len() > ATOM_LIMIT {
+            return Err(Refusal::CountOutOfRange);
+        }
+        Ok(Line::Setting(literals_of(assignment)))
+    }
 }
 
 // As words of a line.

@@ -1,46 +1,54 @@
 // Prints the settings that a nest file admits, line by line: of the file named as argument, or else of standard input.
 #![tactic(auto)]
 
-use answers::FaultLine;
-use finder::lines::listing_of;
-use listing::LISTING_LIMIT;
-use nestfile::Problem;
-use nestfile::reading::read;
-use std::io::Read;
+use printing::{Printed, print_answer};
+use std::io::{LineWriter, Read};
 use std::process::ExitCode;
 use std::{env, fs, io};
 
-// The head, the settings, and the last line.
-const LINE_LIMIT: usize = LISTING_LIMIT + 2;
+// The status where no answer was printed whole.
+const NO_ANSWER: u8 = 2;
 
-fn text_of(rt: &HostRuntime) -> io::Result<Vec<u8>> {
-    if let Some(path) = env::args(rt)?.nth(1) {
-        return fs::read(rt, path.as_str());
-    }
+fn input_of(rt: &HostRuntime) -> io::Result<Vec<u8>> {
     let mut text = Vec::new(rt.alloc());
     rt.reader().read_to_end(&mut text)?;
     Ok(text)
 }
 
-// Each line as soon as it is known.
-fn list(rt: &HostRuntime, problem: &Problem) -> io::Result<()> {
-    let mut listing = listing_of(problem);
-    for _ in 0..LINE_LIMIT {
-        let Some(line) = listing.next_line() else {
-            break;
-        };
-        println!(rt; "{line}")?;
+fn answer(rt: &HostRuntime, text: &[u8]) -> io::Result<ExitCode> {
+    let mut out = LineWriter::new(rt.alloc(), io::writer(rt))?;
+    match print_answer(text, &mut out)? {
+        Printed::Listing => Ok(ExitCode::SUCCESS),
+        Printed::Fault => Ok(ExitCode::FAILURE),
     }
-    Ok(())
 }
 
-fn main(rt: HostRuntime) -> io::Result<ExitCode> {
-    let text = text_of(&rt)?;
-    let mut problem = Problem::empty();
-    if let Err(fault) = read(text.as_slice(), &mut problem) {
-        println!(rt; "{}", FaultLine(fault))?;
-        return Ok(ExitCode::FAILURE);
+fn run(rt: &HostRuntime) -> io::Result<ExitCode> {
+    let mut arguments = env::args(rt)?;
+    let path = arguments.nth(1);
+    if arguments.next().is_some() {
+        eprintln!(rt; "usage: settle [FILE]")?;
+        return Ok(ExitCode::from(NO_ANSWER));
     }
-    list(&rt, &problem)?;
-    Ok(ExitCode::SUCCESS)
+    let (name, text) = match &path {
+        Some(path) => (path.as_str(), fs::read(rt, path.as_str())),
+        None => ("standard input", input_of(rt)),
+    };
+    match text {
+        Ok(text) => answer(rt, text.as_slice()),
+        Err(error) => {
+            eprintln!(rt; "settle: {name}: {error}")?;
+            Ok(ExitCode::from(NO_ANSWER))
+        }
+    }
+}
+
+fn main(rt: HostRuntime) -> ExitCode {
+    match run(&rt) {
+        Ok(status) => status,
+        Err(error) => {
+            let _ = eprintln!(rt; "settle: {error}");
+            ExitCode::from(NO_ANSWER)
+        }
+    }
 }

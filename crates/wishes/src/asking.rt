@@ -1,10 +1,6 @@
 // Asks the session of a problem for wishes.
-ghost use Rattle.std.specs.Prelude.{◌≤◌};
-ghost use Rattle.assignments.specs.Limits.{atom_limit};
-
 use crate::answer::Answer;
-use assignments::literals::is_true;
-use assignments::{ATOM_LIMIT, Literal};
+use assignments::Literal;
 use finder::settings::session_of;
 use finder::veto::FileVeto;
 use listing::line::Line;
@@ -13,7 +9,6 @@ use refusals::{Fault, Refusal};
 use session::session::Session;
 use session::table::Wish;
 use std::alloc::{AllocError, Global};
-use tables::Table;
 use vetoes::marks::blank_marks;
 
 // The numbers as literals; None where one is too large for any.
@@ -28,23 +23,6 @@ pub fn literals_in(heap: Global, numbers: &[i32]) -> Result<Option<Vec<Literal>>
     Ok(Some(literals))
 }
 
-// The line of an assignment of so many atoms.
-fn setting(assignment: &[u8], atoms: usize) -> Line
-    requires { atoms ≤ atom_limit }
-{
-    let mut literals: Table<Literal, ATOM_LIMIT> = Table::new(0);
-    for place in 0..atoms {
-        let atom = place as Literal + 1;
-        let literal = if is_true(assignment, atom) {
-            atom
-        } else {
-            -atom
-        };
-        let _ = literals.push(literal);
-    }
-    Line::Setting(literals)
-}
-
 // The least setting that has all wishes; None where they clash, and the ticks then mark those that do.
 fn ask(
     session: &mut Session<FileVeto>,
@@ -54,7 +32,7 @@ fn ask(
     let atoms = session.atoms().ok_or(Refusal::NotSized)?;
     let mut found = blank_marks();
     match session.ask(wishes, &mut found, ticks)? {
-        Wish::Chosen => Ok(Some(setting(&found, atoms))),
+        Wish::Chosen => Ok(Some(Line::setting(&found[..atoms])?)),
         Wish::Clash => Ok(None),
     }
 }

@@ -15,6 +15,9 @@ use std::env::{self, Args};
 use std::fs;
 use std::process::ExitCode;
 
+// The status where no answer was printed whole.
+const NO_ANSWER: u8 = 2;
+
 // The numbers that the words are.
 fn numbers_in(rt: &HostRuntime, words: Args) -> anyhow::Result<Vec<i32>> {
     let mut numbers = Vec::new(rt.alloc());
@@ -36,14 +39,31 @@ fn answer_for(rt: &HostRuntime, text: &[u8], numbers: &[i32]) -> anyhow::Result<
     }
 }
 
-fn main(rt: HostRuntime) -> anyhow::Result<ExitCode> {
-    let mut words = env::args(&rt)?;
-    let path = words
-        .nth(1)
-        .context("name a nest file, and then the wished literals")?;
-    let numbers = numbers_in(&rt, words)?;
-    let text = fs::read(&rt, path.as_str())?;
-    let answer = answer_for(&rt, text.as_slice(), numbers.as_slice())?;
+fn run(rt: &HostRuntime) -> anyhow::Result<ExitCode> {
+    let mut words = env::args(rt)?;
+    let Some(path) = words.nth(1) else {
+        eprintln!(rt; "usage: wishes FILE LITERAL..")?;
+        return Ok(ExitCode::from(NO_ANSWER));
+    };
+    let numbers = numbers_in(rt, words)?;
+    let text = match fs::read(rt, path.as_str()) {
+        Ok(text) => text,
+        Err(error) => {
+            eprintln!(rt; "wishes: {path}: {error}")?;
+            return Ok(ExitCode::from(NO_ANSWER));
+        }
+    };
+    let answer = answer_for(rt, text.as_slice(), numbers.as_slice())?;
     print!(rt; "{answer}")?;
     Ok(answer.status())
+}
+
+fn main(rt: HostRuntime) -> ExitCode {
+    match run(&rt) {
+        Ok(status) => status,
+        Err(error) => {
+            let _ = eprintln!(rt; "wishes: {error}");
+            ExitCode::from(NO_ANSWER)
+        }
+    }
 }
