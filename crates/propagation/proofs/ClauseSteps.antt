@@ -1,10 +1,10 @@
 -- The first literals of a clause and the first clauses of a list, one more at a time. Assumes nothing.
-use Rattle.std.proofs.Common.{◌≡◌, ℕ, zero, suc, ◌+◌, ◌<◌, Bool, true, false, ◌&&◌, ◌||◌, Option, Some, None, List, [], ◌∷◌, ◌++◌, length, get_or, take, ℤ, pos, sym, ap, ◌∙◌, le_of_suc-le-suc, not-suc-le-zero, arith}
+use Rattle.std.proofs.Common.{◌≡◌, ℕ, zero, suc, ◌+◌, ◌<◌, Bool, true, false, ◌&&◌, ◌||◌, Option, Some, None, List, [], ◌∷◌, ◌++◌, length, get_or, take, ℤ, pos, sym, ap, ◌∙◌, ◌⊎◌, ⊎_elim, subst, le_of_suc-le-suc, not-suc-le-zero, arith}
 use Rattle.std.proofs.lemmas.List.{take_more}
-use Rattle.std.proofs.lemmas.Bool.{or_left, or_right, and_from, and_parts}
+use Rattle.std.proofs.lemmas.Bool.{cases_eq, or_left, or_right, and_from, and_parts}
 use Rattle.std.proofs.lemmas.Bool.Decides.{nat_tests}
 use Rattle.assignments.specs.Literals.{true_at, met, all_met}
-use Rattle.propagation.specs.States.{Refuted, Left}
+use Rattle.propagation.specs.States.{Refuted, Left, Filled, OpenAt, TwoOpen, Waiting}
 use Rattle.propagation.specs.declared.wanted.Wanted.{Wanted}
 
 met_append : (q : List ℕ) (c : List ℤ) (l : ℤ) → met q (c ++ (l ∷ [])) ≡ (met q c || true_at q l)
@@ -18,6 +18,43 @@ met_more q c i h = ap (met q) (take_more c i (pos 0) h) ∙ met_append q (take i
 abbrev pub SoFar : ℕ → List ℕ → (List ℕ → Bool) → Option Wanted → Type 0
 SoFar from p f (Some w) = Left from p f w
 SoFar from p f None = Refuted from p f
+
+-- a literal before the place i is open
+pub record OpenBefore (from : ℕ) (p : List ℕ) (c : List ℤ) (i : ℕ) : Type 0 where
+  pub spot : ℕ
+  pub before : spot < i
+  pub is_open : OpenAt from p c spot
+
+-- the same, where the walk has found one
+abbrev pub OneOpen : ℕ → List ℕ → List ℤ → ℕ → Option Wanted → Type 0
+OneOpen from p c i (Some w) = OpenBefore from p c i
+OneOpen from p c i None = Unit {0}
+
+module _ (from : ℕ) (p : List ℕ) (c : List ℤ) (i : ℕ) where
+  pub one_open_more : (found : Option Wanted) → OneOpen from p c i found → OneOpen from p c (i + 1) found
+  one_open_more (Some w) a = let b = a.before in record { spot = a.spot; before = omega arith; is_open = a.is_open }
+  one_open_more None a = a
+
+  pub one_open_here : (w : Wanted) → i < length c → Left from p (λ q. true_at q (get_or c i (pos 0))) w → OpenBefore from p c (i + 1)
+  one_open_here w h b = record { spot = i; before = omega arith; is_open = record { within = h; wants = w; left = b } }
+
+  pub two_open : (w : Wanted) → OpenBefore from p c i → i < length c → Left from p (λ q. true_at q (get_or c i (pos 0))) w → TwoOpen from p c
+  two_open w a h b = record { first = a.spot; second = i; apart = a.before; one = a.is_open; other = record { within = h; wants = w; left = b } }
+
+pub two_not_filled : (from : ℕ) (p : List ℕ) (c : List ℤ) → TwoOpen from p c → Filled from p → ⊥
+two_not_filled from p c t full =
+    let o = t.one.left in
+    let u = o.unknown in
+    let k = full.known t.one.wants.place o.free o.within in
+    omega arith
+
+pub waiting_more : (from : ℕ) (p : List ℕ) (cs : List (List ℤ)) (n : ℕ) → Waiting from p cs n → (met p (get_or cs n []) ≡ true) ⊎ TwoOpen from p (get_or cs n []) → Waiting from p cs (n + 1)
+waiting_more from p cs n w here = record {
+  each = λ k h. ⊎_elim
+      (λ (e : k ≡ n). subst (λ j. (met p (get_or cs j []) ≡ true) ⊎ TwoOpen from p (get_or cs j [])) (sym e) here)
+      (λ (ne : k ≡ n → ⊥). w.each k (omega arith))
+      (cases_eq k n);
+}
 
 module _ (from : ℕ) (p : List ℕ) (c : List ℤ) (i : ℕ) (h : i < length c) where
   fails_more : (q : List ℕ) → true_at q (get_or c i (pos 0)) ≡ false → met q (take (i + 1) c) ≡ met q (take i c)

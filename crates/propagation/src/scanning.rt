@@ -1,7 +1,6 @@
 // A clause, and all clauses of a book, at a partial assignment.
-ghost use Rattle.assignments.specs.Literals.{met};
 ghost use Rattle.clauses.specs.Books.{clauses_of};
-ghost use Rattle.propagation.specs.States.{Told, Seen};
+ghost use Rattle.propagation.specs.States.{Told, Seen, Waiting, passed};
 
 use crate::literal::{Look, look_at};
 use crate::wanted::Wanted;
@@ -26,7 +25,7 @@ pub enum Sight {
 }
 
 pub fn state_of(clause: &[Literal], assignment: &[u8], from: usize) -> State
-    ensures { Told from assignment.now (λ q. met q clause.now) result }
+    ensures { Told from assignment.now clause.now result }
 {
     let mut open = None;
     for literal in clause {
@@ -45,7 +44,8 @@ pub fn state_of(clause: &[Literal], assignment: &[u8], from: usize) -> State
 
 // The first clause that is broken or leaves one value.
 pub fn scan(book: &ClauseBook, assignment: &[u8], from: usize) -> Sight
-    ensures { Seen from assignment.now (clauses_of book.now) result }
+    ensures seen { Seen from assignment.now (clauses_of book.now) result }
+    ensures first { Waiting from assignment.now (clauses_of book.now) (passed (clauses_of book.now) result) }
 {
     for (index, clause) in book.clauses().enumerate() {
         match state_of(clause, assignment, from) {

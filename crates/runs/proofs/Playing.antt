@@ -52,5 +52,7 @@ module _ (m : Meaning) (before : List Turn) where
       step : Right m (ledger (history i before after)) here.call here.answer × Stands t' (advance (ledger (history i before after)) here.call here.answer)
       step = (subst (λ k. Keeps k t t' (called (get_or before i no_turn).call) (answer x.reply x.call)) v (subst (λ z. Keeps m' t t' (called z.call) (answer x.reply x.call)) was keeps)).step (ledger (history i before after)) p.stands
 
-  pub played_all : (t : Option SessionTable) (after : List Turn) (i : ℕ) → length before ≤ i → i ≤ length before → Played m t before after i → Lawful m (history (length before) before after)
-  played_all t after i h h' p = let e : i ≡ length before = omega arith in subst (λ k. Lawful m (history k before after)) e (right_is_lawful m (history i before after) p.right)
+  pub played_all : (t : Option SessionTable) (after : List Turn) (i : ℕ) → length before ≤ i → i ≤ length before → Played m t before after i → Lawful m (history (length before) before after) × Stands t (ledger (history (length before) before after))
+  played_all t after i h h' p =
+      let e : i ≡ length before = omega arith in
+      subst (λ k. Lawful m (history k before after) × Stands t (ledger (history k before after))) e (right_is_lawful m (history i before after) p.right, p.stands)

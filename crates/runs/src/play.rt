@@ -1,7 +1,8 @@
 // A call on a session, and a list of calls on a fresh one.
 ghost use Rattle.std.specs.Prelude.{◌≡◌, ℕ, length, slice_index_or};
 ghost use Rattle.ledgers.specs.Law.{Lawful};
-ghost use Rattle.session.specs.Standing.{Keeps};
+ghost use Rattle.ledgers.specs.Ledger.{ledger};
+ghost use Rattle.session.specs.Standing.{Stands, Keeps};
 ghost use Rattle.runs.specs.Histories.{called, asked, answer, no_turn, history};
 
 use crate::turn::{Call, Done, Reply, Turn};
@@ -30,6 +31,7 @@ pub fn apply<V: Veto>(session: &mut Session<V>, call: &mut Call) -> Reply
 pub fn play<V: Veto>(veto: V, turns: &mut [Turn]) -> Session<V>
     ensures meaning { V.Veto.means result.veto ≡ V.Veto.means veto }
     ensures lawful { Lawful (V.Veto.means veto) (history (length turns.old) turns.old turns.new) }
+    ensures stands { Stands result.table (ledger (history (length turns.old) turns.old turns.new)) }
     ensures arguments { (i : ℕ) → asked (slice_index_or turns.new i no_turn).call ≡ asked (slice_index_or turns.old i no_turn).call }
 {
     let mut session = Session::new(veto);

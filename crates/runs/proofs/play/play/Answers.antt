@@ -12,4 +12,8 @@ loop-turn-preserved g c = (
 
 pub returns-clause-lawful : goal.returns-clause-lawful
 returns-clause-lawful g c = subst (λ m. Lawful m (history (length c.args.turns.now) c.args.turns.now c.loop-turn.turn-items)) (ap g.V.Veto.means c.new-session.ensures.veto)
-    (played_all _ c.args.turns.now _ c.loop-turn.turn-items c.loop-turn.turn-index c.loop-turn-test.false c.loop-turn.auto.turn-index-end c.loop-turn.invariant.1)
+    (played_all _ c.args.turns.now _ c.loop-turn.turn-items c.loop-turn.turn-index c.loop-turn-test.false c.loop-turn.auto.turn-index-end c.loop-turn.invariant.1).0
+
+pub returns-clause-stands : goal.returns-clause-stands
+returns-clause-stands g c =
+    (played_all _ c.args.turns.now _ c.loop-turn.turn-items c.loop-turn.turn-index c.loop-turn-test.false c.loop-turn.auto.turn-index-end c.loop-turn.invariant.1).1
