@@ -24,7 +24,7 @@ use Rattle.nestformat.specs.Items.{Body}
 use Rattle.nestformat.specs.Due.{row_due, map_due, is_atom, first_is_atom, in_row, unless_out, atoms_at, host_of, natural, well_formed, map_refusal, row_refusal}
 use Rattle.nestfile.specs.declared.NestBody.{NestBody}
 use Rattle.nestfile.specs.declared.Problem.{Problem as Held}
-use Rattle.nestfile.specs.Rows.{arc_numbers, load_numbers}
+use Rattle.nestlines.specs.Rows.{arc_numbers, load_numbers}
 use Rattle.nestfile.specs.Bodies.{rows_of, nest_rows}
 use Rattle.nestfile.specs.Problems.{told, nest_of, below_of, outer_of, arcs_of, milliamperes_of, lines_of}
 use Rattle.vetoes.specs.Meaning.{silent}

@@ -5,7 +5,7 @@ use Rattle.tables.specs.Items.{entries}
 use Rattle.nestformat.specs.declared.kinds.BodyKind.{BodyKind}
 use Rattle.nestformat.specs.declared.kinds.BodyKind.TheVariants.{Outer, Nest, Below, Loop, Milliamperes, Lines}
 use Rattle.nestformat.specs.Kinds.{same_kind}
-use Rattle.nestfile.proofs.KindLaws.{same_kind_is}
+use Rattle.nestlines.proofs.KindLaws.{same_kind_is}
 use Rattle.nestformat.specs.declared.kinds.Contents.{Contents}
 use Rattle.nestformat.specs.Items.{Body, Problem, contents_of, items_of}
 use Rattle.nestformat.specs.Due.{start, listed}

@@ -3,20 +3,20 @@ ghost use Rattle.std.specs.Prelude.{◌≡◌, ◌≤◌, true, length};
 ghost use Rattle.lexer.specs.Scans.{left, line_number, SameLine};
 ghost use Rattle.nestformat.specs.Due.{heading_due, contents_due, body_due, map_due, row_due, due};
 ghost use Rattle.nestformat.specs.Reading.{judge};
-ghost use Rattle.nestfile.specs.Closed.{row_number_limit};
-ghost use Rattle.nestfile.specs.LineItems.{item_or_fault};
+ghost use Rattle.nestlines.specs.Closed.{row_number_limit};
+ghost use Rattle.nestlines.specs.LineItems.{item_or_fault};
 ghost use Rattle.nestfile.specs.Drafts.{state_of, Sound, LineTaken};
 ghost use Rattle.nestfile.specs.declared.drafts.Phase.TheVariants.{Heading, Contents, Bodies, Map, Rows};
 
 use crate::drafts::{Draft, Phase, after_entry, after_opening, rows_left};
-use crate::due::Due;
-use crate::entries::read_entry;
-use crate::headings::read_heading;
-use crate::openings::read_opening;
-use crate::rows::read_row;
 use lexer::reader::Reader;
 use nestformat::faults::LineFault;
 use nestformat::kinds;
+use nestlines::due::Due;
+use nestlines::entries::read_entry;
+use nestlines::headings::read_heading;
+use nestlines::openings::read_opening;
+use nestlines::rows::read_row;
 use refusals::{Fault, Refusal};
 
 impl Draft {
