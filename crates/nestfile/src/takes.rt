@@ -1,6 +1,8 @@
 // A draft takes one line: by its sort, by its tokens, and into the parts.
 ghost use Rattle.std.specs.Prelude.{◌≡◌, ◌≤◌, true, length};
 ghost use Rattle.lexer.specs.Scans.{left, line_number, SameLine};
+ghost use Rattle.refusals.specs.declared.Refusal.TheVariants.{RowRefused};
+ghost use Rattle.nestformat.specs.Faults.{told_at};
 ghost use Rattle.nestformat.specs.Due.{heading_due, contents_due, body_due, map_due, row_due, due};
 ghost use Rattle.nestformat.specs.Reading.{judge};
 ghost use Rattle.nestlines.specs.Closed.{row_number_limit};
@@ -18,6 +20,17 @@ use nestlines::headings::read_heading;
 use nestlines::openings::read_opening;
 use nestlines::rows::read_row;
 use refusals::{Fault, Refusal};
+
+// A row that is refused below, for this cause.
+fn row_fault(cause: Option<Refusal>, line: usize, body: char) -> Fault
+    ensures { result ≡ told_at (record { refusal = RowRefused; cause = cause }) line body }
+{
+    let fault = LineFault {
+        refusal: Refusal::RowRefused,
+        cause,
+    };
+    fault.at(line, body)
+}
 
 impl Draft {
     fn take_heading(&mut self, reader: &mut Reader<'_>) -> Result<(), Fault>
@@ -81,11 +94,7 @@ impl Draft {
         read_row(reader, body, &mut self.numbers)?;
         let Draft { parts, numbers, .. } = self;
         if let Err(cause) = parts.add_map(&entry, numbers.as_slice()) {
-            let fault = LineFault {
-                refusal: Refusal::RowRefused,
-                cause,
-            };
-            return Err(fault.at(line, body));
+            return Err(row_fault(cause, line, body));
         }
         self.phase = rows_left(entry, entry.rows - 1, next);
         Ok(())
@@ -108,11 +117,7 @@ impl Draft {
         read_row(reader, body, &mut self.numbers)?;
         let Draft { parts, numbers, .. } = self;
         if let Err(cause) = parts.add_row(&entry, numbers.as_slice()) {
-            let fault = LineFault {
-                refusal: Refusal::RowRefused,
-                cause,
-            };
-            return Err(fault.at(line, body));
+            return Err(row_fault(cause, line, body));
         }
         self.phase = rows_left(entry, count - 1, next);
         Ok(())

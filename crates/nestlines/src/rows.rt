@@ -50,9 +50,9 @@ pub fn read_row(reader: &mut Reader<'_>, body: char, numbers: &mut RowNumbers) -
     if !are_numbers(reader.rest()) {
         return Err(LineFault::plain(Refusal::BadNumber).at(reader.line(), body));
     }
-    if let Err(fault) = read_numbers(reader, body, numbers) {
+    let read = read_numbers(reader, body, numbers);
+    if read.is_err() {
         numbers.truncate(0);
-        return Err(fault);
     }
-    Ok(())
+    read
 }

@@ -28,7 +28,7 @@ pub returns-in-Err-clause-taken : goal.returns-in-Err-clause-taken
 returns-in-Err-clause-taken c =
     let s = state_of c.args.self.now in
     let read = c.in_ok-read_row.ensures.read in
-    refused _ _ _ _ _ _ _ (map_read c.args.entry s (left c.args.reader.now) (entries c.read_row.new.numbers) c.as_slice.result.now (Some c.in-Err.cause) read.0 read.1 c.as_slice.ensures c.in-Err.ensures.refused) (told_same _ _ _ _ _ _ _ c.at.ensures refl c.line-line.ensures c.letter-body.ensures)
+    refused _ _ _ _ _ _ _ (map_read c.args.entry s (left c.args.reader.now) (entries c.read_row.new.numbers) c.as_slice.result.now (Some c.in-Err.cause) read.0 read.1 c.as_slice.ensures c.in-Err.ensures.refused) (told_same _ _ _ _ _ _ _ c.row_fault.ensures refl c.line-line.ensures c.letter-body.ensures)
 
 pub returns-clause-taken : goal.returns-clause-taken
 returns-clause-taken c =

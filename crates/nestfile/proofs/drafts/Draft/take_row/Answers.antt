@@ -31,7 +31,7 @@ returns-in-Err-clause-taken c =
     let old = c.args.self.now in
     let read = c.in_ok-read_row.ensures.read in
     let ph : PhaseSound old.parts old.opened (Rows c.args.entry c.args.count c.args.next) = subst (PhaseSound old.parts old.opened) c.requires.phase c.requires.sound.phase in
-    refused _ _ _ _ _ _ _ (row_read c.args.entry (state_of old) (left c.args.reader.now) (entries c.read_row.new.numbers) c.as_slice.result.now (clauses_in old.parts c.args.entry.kind) (Some c.in-Err.cause) read.0 read.1 c.as_slice.ensures (ap (clauses_opened old.parts) (sym ph.opened)) c.in-Err.ensures.refused) (told_same _ _ _ _ _ _ _ c.at.ensures refl c.line-line.ensures c.letter-body.ensures)
+    refused _ _ _ _ _ _ _ (row_read c.args.entry (state_of old) (left c.args.reader.now) (entries c.read_row.new.numbers) c.as_slice.result.now (clauses_in old.parts c.args.entry.kind) (Some c.in-Err.cause) read.0 read.1 c.as_slice.ensures (ap (clauses_opened old.parts) (sym ph.opened)) c.in-Err.ensures.refused) (told_same _ _ _ _ _ _ _ c.row_fault.ensures refl c.line-line.ensures c.letter-body.ensures)
 
 pub returns-clause-taken : goal.returns-clause-taken
 returns-clause-taken c =
