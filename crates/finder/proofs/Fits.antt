@@ -25,9 +25,9 @@ use Rattle.nestformat.specs.Bodies.{body_at, rows_at}
 use Rattle.nestformat.specs.Due.{row_due, map_due, is_atom, first_is_atom, in_row, unless_out, listed, atoms_at, host_of, natural, well_formed, map_refusal, row_refusal}
 use Rattle.nestfile.specs.declared.NestBody.{NestBody}
 use Rattle.nestfile.specs.declared.Problem.{Problem as Held}
-use Rattle.nestfile.specs.Rows.{arc_numbers, load_numbers}
 use Rattle.nestfile.specs.Bodies.{nest_rows}
 use Rattle.nestfile.specs.Problems.{told}
+use Rattle.nestlines.specs.Rows.{arc_numbers, load_numbers}
 use Rattle.vetoes.specs.Meaning.{silent}
 use Rattle.finder.specs.Bodies.{entry_at, atoms_of, clauses_of as clauses_held}
 use Rattle.finder.specs.Meanings.{plan_in, below_means, arc_in, load_in, loads_in}

@@ -11,7 +11,7 @@ use Rattle.nestformat.specs.declared.kinds.BodyKind.{BodyKind}
 use Rattle.nestformat.specs.declared.kinds.Contents.{Contents}
 use Rattle.nestformat.specs.Bodies.{body_at, rows_at}
 use Rattle.nestfile.specs.declared.Problem.{Problem as Held}
-use Rattle.nestfile.specs.Rows.{arc_numbers, load_numbers}
+use Rattle.nestlines.specs.Rows.{arc_numbers, load_numbers}
 use Rattle.nestfile.specs.Problems.{told}
 use Rattle.finder.specs.declared.items.Owned.{Owned}
 use Rattle.finder.specs.Bodies.{entry_at, atoms_of, clauses_of as clauses_held}

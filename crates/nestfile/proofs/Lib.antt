@@ -1,15 +1,7 @@
-pub mod RangeLaws
 pub mod Listing
 pub mod Sizes
-pub mod Orders
-pub mod Places
-pub mod KindLaws
-pub mod HeadingLines
-pub mod OpeningLines
-pub mod EntryLines
-pub mod RowLines
+pub mod RowsRead
 pub mod Steps
 pub mod Turns
-pub mod Counting
 pub mod Endings
 pub mod Outcomes

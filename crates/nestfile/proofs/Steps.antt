@@ -1,5 +1,5 @@
 -- What a draft stands for after one line more. Assumes nothing.
-use Rattle.std.proofs.Common.{◌≡◌, ◌⊎◌, inl, inr, nat_le, nat_lt, ℕ, zero, suc, ◌+◌, ◌-◌, ◌<◌, ◌≤◌, Bool, true, false, cond, not, ◌&&◌, List, [], ◌∷◌, ◌++◌, length, take, drop, get_or, map, ℤ, Ok, Err, Some, None, Option, Result, refl, sym, ap, ap₂, subst, ◌∙◌, ⊎_elim, arith, append_assoc, length-append, replicate}
+use Rattle.std.proofs.Common.{◌≡◌, ◌⊎◌, inl, inr, nat_le, nat_lt, ℕ, zero, suc, ◌+◌, ◌-◌, ◌<◌, ◌≤◌, Bool, true, false, cond, not, ◌&&◌, List, [], ◌∷◌, ◌++◌, length, take, drop, get_or, map, ℤ, Ok, Err, Some, Option, Result, refl, sym, ap, ap₂, subst, ◌∙◌, ⊎_elim, arith, append_assoc, length-append, replicate}
 use Rattle.std.proofs.lemmas.Bool.{both_ways, cases_Bool, cases_lt, cond-true, cond-false, and_parts, or_parts, or_from, not-true, leb-true, lt-ltb, eqb-false, ne_eqb, eq-eqb}
 use Rattle.std.proofs.lemmas.List.{append-nil, take_more, take-append-le, map-append, get_or_append_left, drop_all}
 use Rattle.std.proofs.lemmas.Grind.{flat_map-append}
@@ -16,31 +16,26 @@ use Rattle.nestformat.specs.declared.kinds.BodyKind.TheVariants.{Outer, Nest, Be
 use Rattle.nestformat.specs.declared.kinds.Contents.{Contents}
 use Rattle.nestformat.specs.declared.kinds.Heading.{Heading}
 use Rattle.nestformat.specs.Limits.{body_limit, within, from_to}
-use Rattle.nestformat.specs.Faults.{plain, told_at}
+use Rattle.nestformat.specs.Faults.{plain}
 use Rattle.nestformat.specs.Kinds.{letter_of, same_kind, has_map, atoms_in, in_ranges, size_range, own_range, rows_range, has_clauses}
 use Rattle.nestformat.specs.Items.{Item, heading_line, contents_line, body_line, row_line, body_items}
 use Rattle.nestformat.specs.Due.{Slot, heading_due, contents_due, body_due, map_due, row_due, end_due, State, advance, clauses_with, due, bodies_due, rows_due, or_bodies, listed, in_order, atoms_at, is_map, fits_at, says, as_written}
 use Rattle.nestformat.specs.Reading.{number_places, wrong, judge, of_sort, fault_at}
 use Rattle.lexer.specs.Lines.{lead}
 use Rattle.lexer.specs.Scans.{first}
-use Rattle.nestfile.specs.declared.due.Due.{Due}
-use Rattle.nestfile.specs.declared.due.Due.TheVariants.{Heading as HeadingDue, Contents as ContentsDue, Body as BodyDue, Map as MapDue, Row as RowDue, End as EndDue}
-use Rattle.nestfile.specs.Tokens.{heading_told, opening_fault, placed}
-use Rattle.nestfile.specs.Entries.{contents_told}
 use Rattle.nestformat.proofs.KindLaws.{same_kind_is}
-use Rattle.nestfile.proofs.HeadingLines.{heading_judged}
-use Rattle.nestfile.proofs.EntryLines.{entry_judged}
-use Rattle.nestfile.proofs.OpeningLines.{opening_judged}
+use Rattle.nestlines.specs.declared.due.Due.{Due}
+use Rattle.nestlines.specs.declared.due.Due.TheVariants.{Heading as HeadingDue, Contents as ContentsDue, Body as BodyDue, Map as MapDue, Row as RowDue, End as EndDue}
 use Rattle.nestfile.specs.declared.Parts.{Parts}
 use Rattle.nestfile.specs.declared.drafts.Draft.{Draft}
 use Rattle.nestfile.specs.declared.drafts.Phase.{Phase}
 use Rattle.nestfile.specs.declared.drafts.Phase.TheVariants.{Heading as AtHeading, Contents as InContents, Bodies, Map, Rows}
 use Rattle.clauses.specs.Books.{atoms_of, clauses_of}
-use Rattle.nestfile.specs.Rows.{arc_numbers, load_numbers}
 use Rattle.nestfile.specs.Bodies.{rows_of, clauses_in, body_of, nest_clauses, nest_rows, IsBegun, IsReady, Others, nest_atoms, book_atoms}
-use Rattle.nestfile.specs.LineItems.{item_or_fault, item_of_heading, item_of_entry, item_of_opening}
-use Rattle.std.specs.Option.{option_map}
-use Rattle.nestfile.specs.Drafts.{slot_of, slots, state_of, state_with, clauses_opened, bodies_items, items_to, items_with, EntriesLeft, RowsLeft, Good, Here, MapSound, RowsSound, PhaseSound, Bare, opened_in, LineTaken, lacks_map, Sized}
+use Rattle.nestfile.specs.Drafts.{slots, state_of, state_with, clauses_opened, bodies_items, items_to, items_with, EntriesLeft, RowsLeft, Good, Here, MapSound, RowsSound, PhaseSound, Bare, opened_in, LineTaken, lacks_map, Sized}
+use Rattle.nestlines.specs.Rows.{arc_numbers, load_numbers}
+use Rattle.nestlines.specs.LineItems.{item_or_fault}
+use Rattle.nestlines.specs.Sorts.{slot_of}
 
 -- what is judged right fits
 ok_past : {A E : Type 0} (b : Bool) (e : E) (r : Result A E) (x : A) → cond b (Err e) r ≡ Ok x → r ≡ Ok x
@@ -545,57 +540,6 @@ no_end [] (MapDue e) o h x s = let y : map_due e ≡ end_due = h in cc
 no_end (f ∷ l) (MapDue e) o h x s = let y : map_due e ≡ body_due f = h in cc
 no_end [] (RowDue e) o h x s = let y : row_due e ≡ end_due = h in cc
 no_end (f ∷ l) (RowDue e) o h x s = let y : row_due e ≡ body_due f = h in cc
-
--- the answers of what reads a line, as items
-
--- a placed answer by what was placed
-placed_ok : {T : Type 0} (n b : ℕ) (q : Result T LineFault) (x : T) → Ok x ≡ placed n b q → q ≡ Ok x
-placed_ok n b (Ok y) x h = let z : Ok x ≡ Ok y = h in cc
-placed_ok {T = T} n b (Err f) x h = let z : Ok x ≡ Err (told_at f n b) = h in absurd (cc)
-
-placed_err : {T : Type 0} (n b : ℕ) (q : Result T LineFault) (g : Fault) → Err g ≡ placed n b q → (f : LineFault) × (q ≡ Err f) × (g ≡ told_at f n b)
-placed_err n b (Ok y) g h = let z : Err g ≡ Ok y = h in absurd (cc)
-placed_err n b (Err f) g h = let z : Err g ≡ Err (told_at f n b) = h in (f, refl, cc)
-
-mapped_none : (n b : ℕ) (o : Option LineFault) → None ≡ option_map (λ f. told_at f n b) o → o ≡ None
-mapped_none n b None h = refl
-mapped_none n b (Some f) h = let z : None ≡ Some (told_at f n b) = h in absurd (cc)
-
-mapped_some : (n b : ℕ) (o : Option LineFault) (g : Fault) → Some g ≡ option_map (λ f. told_at f n b) o → (f : LineFault) × (o ≡ Some f) × (g ≡ told_at f n b)
-mapped_some n b None g h = let z : Some g ≡ None = h in absurd (cc)
-mapped_some n b (Some f) g h = let z : Some g ≡ Some (told_at f n b) = h in (f, refl, cc)
-
-module _ (s : State) (n b : ℕ) (ts : List (List ℕ)) where
-  abbrev heading_here : Result Heading LineFault
-  heading_here = heading_told (first ts) (first (drop 1 ts)) (first (drop 1 (drop 1 ts))) (first (drop 1 (drop 1 (drop 1 ts)))) (first (drop 1 (drop 1 (drop 1 (drop 1 ts)))))
-
-  pub heading_read : (h : Heading) → Ok h ≡ placed n b heading_here → item_or_fault heading_due s ts ≡ Ok (heading_line h)
-  heading_read h e = heading_judged s ts ∙ ap item_of_heading (placed_ok n b heading_here h e)
-
-  pub heading_faulty : (g : Fault) → b ≡ s.letter → Err g ≡ placed n b heading_here → (f : LineFault) × (item_or_fault heading_due s ts ≡ Err f) × (g ≡ fault_at s n f)
-  heading_faulty g k e = let p = placed_err n b heading_here g e in (p.0, heading_judged s ts ∙ ap item_of_heading p.1, p.2 ∙ ap (told_at p.0 n) k)
-
-  abbrev entry_here : List Contents → Result Contents LineFault
-  entry_here es = contents_told (first ts) (first (drop 1 ts)) (first (drop 1 (drop 1 ts))) (first (drop 1 (drop 1 (drop 1 ts)))) (first (drop 1 (drop 1 (drop 1 (drop 1 ts))))) (first (drop 1 (drop 1 (drop 1 (drop 1 (drop 1 ts)))))) es
-
-  pub entry_read : (es : List Contents) (x : Contents) → es ≡ s.contents → Ok x ≡ placed n b (entry_here es) → item_or_fault contents_due s ts ≡ Ok (contents_line x)
-  entry_read es x c e = entry_judged s ts ∙ ap item_of_entry (sym (ap entry_here c) ∙ placed_ok n b (entry_here es) x e)
-
-  pub entry_faulty : (es : List Contents) (g : Fault) → es ≡ s.contents → b ≡ s.letter → Err g ≡ placed n b (entry_here es) → (f : LineFault) × (item_or_fault contents_due s ts ≡ Err f) × (g ≡ fault_at s n f)
-  entry_faulty es g c k e =
-      let p = placed_err n b (entry_here es) g e in
-      (p.0, entry_judged s ts ∙ ap item_of_entry (sym (ap entry_here c) ∙ p.1), p.2 ∙ ap (told_at p.0 n) k)
-
-  abbrev opening_here : Contents → Option LineFault
-  opening_here e = opening_fault (first ts) (first (drop 1 ts)) (first (drop 1 (drop 1 ts))) (first (drop 1 (drop 1 (drop 1 ts)))) e.kind s.map
-
-  pub opening_read : (e : Contents) → None ≡ option_map (λ f. told_at f n b) (opening_here e) → item_or_fault (body_due e) s ts ≡ Ok (body_line e.kind s.map)
-  opening_read e h = opening_judged e s ts ∙ ap (item_of_opening e.kind s.map) (mapped_none n b (opening_here e) h)
-
-  pub opening_faulty : (e : Contents) (g : Fault) → b ≡ s.letter → Some g ≡ option_map (λ f. told_at f n b) (opening_here e) → (f : LineFault) × (item_or_fault (body_due e) s ts ≡ Err f) × (g ≡ fault_at s n f)
-  opening_faulty e g k h =
-      let p = mapped_some n b (opening_here e) g h in
-      (p.0, opening_judged e s ts ∙ ap (item_of_opening e.kind s.map) p.1, p.2 ∙ ap (told_at p.0 n) k)
 
 pub refused_result : {T : Type 0} (j : Result Item LineFault) (n : ℕ) (r : Result T Fault) (g : Fault) (old new : Draft) → r ≡ Err g → (f : LineFault) × (j ≡ Err f) × (g ≡ fault_at (state_of old) n f) → LineTaken j n r old new
 refused_result {T = T} j n r g old new e h = subst (λ x. LineTaken j n x old new) (sym e) (refused T j n h.0 g old new h.1 h.2)

@@ -1,12 +1,12 @@
 -- A line more of a text. Assumes nothing.
-use Rattle.std.proofs.Common.{◌≡◌, ℕ, suc, ◌+◌, ◌<◌, true, false, List, [], ◌∷◌, ◌++◌, length, Ok, Err, Result, refl, sym, ap, ap₂, subst, ◌∙◌, arith, append_assoc}
+use Rattle.std.proofs.Common.{◌≡◌, ℕ, suc, ◌+◌, ◌<◌, true, false, List, [], ◌∷◌, ◌++◌, length, Ok, Err, Result, refl, sym, ap, subst, ◌∙◌, arith, append_assoc}
 use Rattle.std.proofs.lemmas.Bool.{cond-true, cond-false}
 use Rattle.std.proofs.lemmas.List.{append-nil}
 use Rattle.refusals.specs.declared.Fault.{Fault}
 use Rattle.refusals.specs.declared.Refusal.TheVariants.{BadByte, BadEnd}
 use Rattle.lexer.specs.Lines.{tokens, lead, clean}
 use Rattle.nestformat.specs.declared.faults.LineFault.{LineFault}
-use Rattle.nestformat.specs.Faults.{plain, told_at}
+use Rattle.nestformat.specs.Faults.{plain}
 use Rattle.nestformat.specs.Items.{Item}
 use Rattle.nestformat.specs.Due.{State, due, advance}
 use Rattle.nestformat.specs.Reading.{judge, accept, skipped, fault_at, before, follow, finished, reading_from}
@@ -89,10 +89,6 @@ line_ok (Err r) n x old new h = absurd h
 pub line_err : (T : Type 0) (q : Result Item LineFault) (n : ℕ) (g : Fault) (old new : Draft) → LineTaken q n {T = T} (Err g) old new → (f : LineFault) × (q ≡ Err f) × (g ≡ fault_at (state_of old) n f)
 line_err T (Ok it) n g old new h = absurd h
 line_err T (Err r) n g old new h = (r, refl, h)
-
--- a fault by the parts that it was made of
-pub told_same : (g : Fault) (f h : LineFault) (n m b c : ℕ) → g ≡ told_at f n b → f ≡ h → n ≡ m → b ≡ c → g ≡ told_at h m c
-told_same g f h n m b c e p q r = e ∙ ap (λ x. told_at x n b) p ∙ ap₂ (λ x y. told_at h x y) q r
 
 pub answered_result : {T : Type 0} (q : Result (List Item) Fault) (r : Result T Fault) (g : Fault) (its jts : List Item) → r ≡ Err g → Answered q {T = T} (Err g) its jts → Answered q r its jts
 answered_result q r g its jts e h = subst (λ x. Answered q x its jts) (sym e) h

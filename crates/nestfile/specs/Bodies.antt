@@ -13,7 +13,7 @@ use Rattle.nestformat.specs.Items.{Body, Problem}
 use Rattle.nestformat.specs.Due.{Slot, start, is_atom, form, listed, atoms_at, refusal_below}
 use Rattle.nestfile.specs.declared.NestBody.{NestBody}
 use Rattle.nestfile.specs.declared.Parts.{Parts}
-use Rattle.nestfile.specs.Rows.{arc_numbers, load_numbers, caused}
+use Rattle.nestlines.specs.Rows.{arc_numbers, load_numbers, caused}
 
 -- the map comes first
 abbrev pub nest_rows : Option NestBody → List (List ℤ)

@@ -8,23 +8,13 @@ use Rattle.nestformat.specs.declared.kinds.Contents.{Contents}
 use Rattle.nestformat.specs.Limits.{body_limit}
 use Rattle.nestformat.specs.Kinds.{letter_of, same_kind, has_map, atoms_in, in_ranges}
 use Rattle.nestformat.specs.Items.{Item, heading_line, contents_line, body_items}
-use Rattle.nestformat.specs.Due.{Slot, heading_due, contents_due, body_due, map_due, row_due, end_due, State, advance, bodies_due, listed, atoms_at}
+use Rattle.nestformat.specs.Due.{Slot, heading_due, contents_due, map_due, row_due, State, advance, bodies_due, listed, atoms_at}
 use Rattle.nestformat.specs.Reading.{fault_at}
 use Rattle.nestfile.specs.declared.Parts.{Parts}
-use Rattle.nestfile.specs.declared.due.Due.{Due}
-use Rattle.nestfile.specs.declared.due.Due.TheVariants.{Heading as HeadingDue, Contents as ContentsDue, Body as BodyDue, Map as MapDue, Row as RowDue, End as EndDue}
 use Rattle.nestfile.specs.declared.drafts.Draft.{Draft}
 use Rattle.nestfile.specs.declared.drafts.Phase.{Phase}
 use Rattle.nestfile.specs.declared.drafts.Phase.TheVariants.{Heading, Contents as InContents, Bodies, Map, Rows}
 use Rattle.nestfile.specs.Bodies.{rows_of, clauses_in, body_of, book_atoms, IsBegun, IsReady}
-
-abbrev pub slot_of : Due → Slot
-slot_of HeadingDue = heading_due
-slot_of ContentsDue = contents_due
-slot_of (BodyDue e) = body_due e
-slot_of (MapDue e) = map_due e
-slot_of (RowDue e) = row_due e
-slot_of EndDue = end_due
 
 -- the lines to come, after these contents
 abbrev pub slots : Phase → List Contents → List Slot

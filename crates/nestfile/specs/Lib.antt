@@ -1,10 +1,4 @@
-pub mod Rows
 pub mod Bodies
 pub mod Problems
-pub mod Tokens
-pub mod Sorts
-pub mod Entries
-pub mod LineItems
-pub mod Closed
 pub mod Drafts
 pub mod Read

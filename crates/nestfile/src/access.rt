@@ -3,7 +3,7 @@ ghost use Rattle.std.specs.Prelude.{◌≡◌, ◌≤◌, ◌∷◌, length, map
 ghost use Rattle.tables.specs.Items.{entries};
 ghost use Rattle.nestfile.specs.Problems.{told, empty_problem};
 ghost use Rattle.clauses.specs.Books.{atoms_of, clauses_of};
-ghost use Rattle.nestfile.specs.Rows.{arc_numbers, load_numbers};
+ghost use Rattle.nestlines.specs.Rows.{arc_numbers, load_numbers};
 ghost use Rattle.nestformat.specs.declared.kinds.BodyKind.TheVariants.{Outer, Nest, Below, Loop, Milliamperes, Lines};
 ghost use Rattle.nestformat.specs.Limits.{row_limit};
 ghost use Rattle.nestformat.specs.Items.{contents_of};

@@ -8,16 +8,17 @@ ghost use Rattle.clauses.specs.Adding.{refusal_of_adding};
 ghost use Rattle.cycles.specs.Limits.{signal_limit};
 ghost use Rattle.nestformat.specs.Limits.{row_limit, milliampere_load_limit, line_load_limit};
 ghost use Rattle.nestformat.specs.Due.{is_arc, is_load, first_is_atom};
-ghost use Rattle.nestfile.specs.Rows.{arc_numbers, load_numbers, verdict, caused};
+ghost use Rattle.nestlines.specs.Rows.{arc_numbers, load_numbers, verdict, caused};
 ghost use Rattle.nestfile.specs.Bodies.{nest_rows, nest_atoms, nest_clauses, NestRead};
 
 use crate::NestBody;
-use crate::numbers::{add_numbers, arc_of, atoms_named, load_of};
+use assignments::AtomNumber;
 use clauses::book::ClauseBook;
-use cycles::arc::Arc;
+use cycles::arc::{Arc, SignalNumber};
 use loads::kind::{Lines, Milliamperes};
 use loads::row::Row;
 use nestformat::{LINE_LOAD_LIMIT, MILLIAMPERE_LOAD_LIMIT, ROW_LIMIT};
+use nestlines::numbers::{add_numbers, arc_of, atoms_named, load_of};
 use refusals::Refusal;
 use tables::Table;
 
@@ -41,7 +42,7 @@ pub(crate) fn add_arc(
     ensures refused { result_err result ≡ verdict (is_arc signals numbers.now) (first_is_atom atoms numbers.now) }
     ensures rows { map arc_numbers (entries arcs.new) ≡ (if is_ok result then map arc_numbers (entries arcs.old) ++ numbers.now ∷ [] else map arc_numbers (entries arcs.old)) }
 {
-    let arc = arc_of(numbers, signals, atoms)?;
+    let arc = arc_of(numbers, signals as SignalNumber, atoms as AtomNumber)?;
     let _ = arcs.push(arc);
     Ok(())
 }
@@ -56,7 +57,7 @@ pub(crate) fn add_milliamperes(
     ensures refused { result_err result ≡ verdict (is_load milliampere_load_limit numbers.now) (first_is_atom atoms numbers.now) }
     ensures rows { map load_numbers (entries rows.new) ≡ (if is_ok result then map load_numbers (entries rows.old) ++ numbers.now ∷ [] else map load_numbers (entries rows.old)) }
 {
-    let Row { atom, load } = load_of(numbers, MILLIAMPERE_LOAD_LIMIT as usize, atoms)?;
+    let Row { atom, load } = load_of(numbers, MILLIAMPERE_LOAD_LIMIT as u16, atoms as AtomNumber)?;
     let _ = rows.push(Row {
         atom,
         load: Milliamperes::from(load),
@@ -74,7 +75,7 @@ pub(crate) fn add_lines(
     ensures refused { result_err result ≡ verdict (is_load line_load_limit numbers.now) (first_is_atom atoms numbers.now) }
     ensures rows { map load_numbers (entries rows.new) ≡ (if is_ok result then map load_numbers (entries rows.old) ++ numbers.now ∷ [] else map load_numbers (entries rows.old)) }
 {
-    let row = load_of(numbers, LINE_LOAD_LIMIT as usize, atoms)?;
+    let row = load_of(numbers, LINE_LOAD_LIMIT as u16, atoms as AtomNumber)?;
     let _ = rows.push(row);
     Ok(())
 }
@@ -123,7 +124,7 @@ pub(crate) fn nest_of(
     if numbers.len() != seen {
         return Err(None);
     }
-    let Some(map) = atoms_named(numbers, limit) else {
+    let Some(map) = atoms_named(numbers, limit as AtomNumber) else {
         return Err(Some(Refusal::LiteralOutOfRange));
     };
     let book = ClauseBook::fresh(seen + own).map_err(Some)?;

@@ -15,20 +15,9 @@ use clauses::book::ClauseBook;
 use cycles::arc::Arc;
 use loads::row::Row;
 use nestformat::kinds::{BodyKind, Contents};
+use nestlines::ranges::atoms_in;
 use refusals::Refusal;
 use tables::Table;
-
-// The atoms of the body that the entry names.
-pub(crate) fn atoms_in(entry: &Contents) -> usize
-    ensures { result ≡ atoms_in entry.now }
-{
-    match entry.kind {
-        BodyKind::Outer | BodyKind::Nest | BodyKind::Below => {
-            entry.size as usize + entry.own as usize
-        }
-        _ => 0,
-    }
-}
 
 // The atoms of the body of this kind, or none.
 fn atoms_at(contents: &[Contents], kind: BodyKind) -> usize

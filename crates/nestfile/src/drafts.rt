@@ -4,12 +4,13 @@ ghost use Rattle.nestformat.specs.Kinds.{has_map};
 ghost use Rattle.nestformat.specs.Due.{due, start};
 ghost use Rattle.nestformat.specs.Reading.{finished};
 ghost use Rattle.nestfile.specs.declared.drafts.Phase.TheVariants.{Map};
-ghost use Rattle.nestfile.specs.Drafts.{slot_of, state_of, items_in, EntriesLeft, RowsLeft, Sound};
+ghost use Rattle.nestlines.specs.Sorts.{slot_of};
+ghost use Rattle.nestfile.specs.Drafts.{state_of, items_in, EntriesLeft, RowsLeft, Sound};
 
 use crate::Parts;
-use crate::due::Due;
-use crate::rows::RowNumbers;
 use nestformat::kinds::{BodyKind, Contents};
+use nestlines::due::Due;
+use nestlines::rows::RowNumbers;
 use tables::Table;
 
 // Which lines are to come.

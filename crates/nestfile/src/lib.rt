@@ -5,16 +5,8 @@ pub mod access;
 mod adding;
 mod bodies;
 mod drafts;
-mod due;
-mod entries;
-mod headings;
-mod numbers;
-mod openings;
-mod ranges;
 pub mod reading;
-mod rows;
 mod takes;
-mod tokens;
 
 ghost use Rattle.std.specs.Prelude.{◌≡◌, true};
 ghost use Rattle.nestformat.specs.Items.{items_of};

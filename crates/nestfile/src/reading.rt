@@ -10,11 +10,11 @@ ghost use Rattle.nestfile.specs.Drafts.{state_of, items_in, Sound, LineTaken, An
 
 use crate::Problem;
 use crate::drafts::Draft;
-use crate::due::is_skipped;
 use lexer::bytes::is_clean;
 use lexer::reader::Reader;
 use nestformat::TEXT_LIMIT;
 use nestformat::faults::LineFault;
+use nestlines::due::is_skipped;
 use refusals::{Fault, Refusal};
 
 // The line that the reader stands at, which counts, taken by the draft.

@@ -1,23 +1,36 @@
 // A draft takes one line: by its sort, by its tokens, and into the parts.
 ghost use Rattle.std.specs.Prelude.{◌≡◌, ◌≤◌, true, length};
 ghost use Rattle.lexer.specs.Scans.{left, line_number, SameLine};
+ghost use Rattle.refusals.specs.declared.Refusal.TheVariants.{RowRefused};
+ghost use Rattle.nestformat.specs.Faults.{told_at};
 ghost use Rattle.nestformat.specs.Due.{heading_due, contents_due, body_due, map_due, row_due, due};
 ghost use Rattle.nestformat.specs.Reading.{judge};
-ghost use Rattle.nestfile.specs.Closed.{row_number_limit};
-ghost use Rattle.nestfile.specs.LineItems.{item_or_fault};
+ghost use Rattle.nestlines.specs.Closed.{row_number_limit};
+ghost use Rattle.nestlines.specs.LineItems.{item_or_fault};
 ghost use Rattle.nestfile.specs.Drafts.{state_of, Sound, LineTaken};
 ghost use Rattle.nestfile.specs.declared.drafts.Phase.TheVariants.{Heading, Contents, Bodies, Map, Rows};
 
 use crate::drafts::{Draft, Phase, after_entry, after_opening, rows_left};
-use crate::due::Due;
-use crate::entries::read_entry;
-use crate::headings::read_heading;
-use crate::openings::read_opening;
-use crate::rows::read_row;
 use lexer::reader::Reader;
 use nestformat::faults::LineFault;
 use nestformat::kinds;
+use nestlines::due::Due;
+use nestlines::entries::read_entry;
+use nestlines::headings::read_heading;
+use nestlines::openings::read_opening;
+use nestlines::rows::read_row;
 use refusals::{Fault, Refusal};
+
+// A row that is refused below, for this cause.
+fn row_fault(cause: Option<Refusal>, line: usize, body: char) -> Fault
+    ensures { result ≡ told_at (record { refusal = RowRefused; cause = cause }) line body }
+{
+    let fault = LineFault {
+        refusal: Refusal::RowRefused,
+        cause,
+    };
+    fault.at(line, body)
+}
 
 impl Draft {
     fn take_heading(&mut self, reader: &mut Reader<'_>) -> Result<(), Fault>
@@ -81,11 +94,7 @@ impl Draft {
         read_row(reader, body, &mut self.numbers)?;
         let Draft { parts, numbers, .. } = self;
         if let Err(cause) = parts.add_map(&entry, numbers.as_slice()) {
-            let fault = LineFault {
-                refusal: Refusal::RowRefused,
-                cause,
-            };
-            return Err(fault.at(line, body));
+            return Err(row_fault(cause, line, body));
         }
         self.phase = rows_left(entry, entry.rows - 1, next);
         Ok(())
@@ -108,11 +117,7 @@ impl Draft {
         read_row(reader, body, &mut self.numbers)?;
         let Draft { parts, numbers, .. } = self;
         if let Err(cause) = parts.add_row(&entry, numbers.as_slice()) {
-            let fault = LineFault {
-                refusal: Refusal::RowRefused,
-                cause,
-            };
-            return Err(fault.at(line, body));
+            return Err(row_fault(cause, line, body));
         }
         self.phase = rows_left(entry, count - 1, next);
         Ok(())

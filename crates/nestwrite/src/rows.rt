@@ -2,7 +2,7 @@
 ghost use Rattle.std.specs.Prelude.{◌≡◌, List, ℤ, Some, MatchOption, map};
 ghost use Rattle.clauses.specs.Books.{clauses_of};
 ghost use Rattle.nestfile.specs.Bodies.{nest_rows};
-ghost use Rattle.nestfile.specs.Rows.{arc_numbers, load_numbers};
+ghost use Rattle.nestlines.specs.Rows.{arc_numbers, load_numbers};
 ghost use Rattle.writing.specs.Texts.{joined};
 ghost use Rattle.writing.specs.Buffers.{held};
 ghost use Rattle.nestwrite.specs.Texts.{row_text, rows_text};

@@ -1,6 +1,6 @@
 use Rattle.std.proofs.Common.{map, sym, ap, ◌∙◌}
 use Rattle.nestformat.specs.declared.kinds.BodyKind.TheVariants.{Loop}
-use Rattle.nestfile.specs.Rows.{arc_numbers}
+use Rattle.nestlines.specs.Rows.{arc_numbers}
 use Rattle.nestfile.proofs.Listing.{rows_told}
 use Rattle.nestfile.proofs.Problem.arcs.Goals as goal
 

@@ -1,6 +1,6 @@
 use Rattle.std.proofs.Common.{map, sym, ap, ◌∙◌}
 use Rattle.nestformat.specs.declared.kinds.BodyKind.TheVariants.{Lines}
-use Rattle.nestfile.specs.Rows.{load_numbers}
+use Rattle.nestlines.specs.Rows.{load_numbers}
 use Rattle.nestfile.proofs.Listing.{rows_told}
 use Rattle.nestfile.proofs.Problem.lines.Goals as goal
 

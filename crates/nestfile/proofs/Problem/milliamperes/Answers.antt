@@ -1,6 +1,6 @@
 use Rattle.std.proofs.Common.{map, sym, ap, ◌∙◌}
 use Rattle.nestformat.specs.declared.kinds.BodyKind.TheVariants.{Milliamperes}
-use Rattle.nestfile.specs.Rows.{load_numbers}
+use Rattle.nestlines.specs.Rows.{load_numbers}
 use Rattle.nestfile.proofs.Listing.{rows_told}
 use Rattle.nestfile.proofs.Problem.milliamperes.Goals as goal
 

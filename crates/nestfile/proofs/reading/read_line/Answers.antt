@@ -4,8 +4,9 @@ use Rattle.lexer.specs.Lines.{clean}
 use Rattle.lexer.specs.Scans.{current, line_number}
 use Rattle.nestformat.specs.Faults.{plain}
 use Rattle.nestfile.specs.Drafts.{state_of}
-use Rattle.nestfile.proofs.Counting.{few_left}
-use Rattle.nestfile.proofs.Turns.{bad_line, clean_line, told_same}
+use Rattle.nestlines.proofs.Counting.{few_left}
+use Rattle.nestlines.proofs.Placed.{told_same}
+use Rattle.nestfile.proofs.Turns.{bad_line, clean_line}
 use Rattle.nestfile.proofs.reading.read_line.Goals as goal
 
 pub returns-then-not-is_clean-clause-taken : goal.returns-then-not-is_clean-clause-taken

@@ -7,7 +7,8 @@ use Rattle.nestformat.specs.Limits.{text_limit}
 use Rattle.nestformat.specs.Faults.{plain}
 use Rattle.nestformat.specs.Reading.{accept, skipped, fault_at, reading_from}
 use Rattle.nestfile.specs.Drafts.{state_of, items_in}
-use Rattle.nestfile.proofs.Turns.{at_place, took, failed, lacking, done, line_ok, line_err, told_same, answered_result, shorter}
+use Rattle.nestlines.proofs.Placed.{told_same}
+use Rattle.nestfile.proofs.Turns.{at_place, took, failed, lacking, done, line_ok, line_err, answered_result, shorter}
 use Rattle.nestfile.proofs.reading.read_lines.Goals as goal
 
 pub loop-reader-smaller-then-is_skipped : goal.loop-reader-smaller-then-is_skipped

@@ -6,7 +6,8 @@ use Rattle.lexer.proofs.Moves.{left_same}
 use Rattle.nestformat.specs.Due.{contents_due, row_due, due, bodies_due}
 use Rattle.nestformat.specs.Reading.{of_sort}
 use Rattle.nestfile.specs.declared.drafts.Phase.TheVariants.{Contents, Rows}
-use Rattle.nestfile.specs.Drafts.{slot_of, slots, state_of, PhaseSound}
+use Rattle.nestlines.specs.Sorts.{slot_of}
+use Rattle.nestfile.specs.Drafts.{slots, state_of, PhaseSound}
 use Rattle.nestfile.proofs.Steps.{sorted, due_contents, due_rows, no_end}
 use Rattle.nestfile.proofs.Turns.{on_line}
 use Rattle.nestfile.proofs.drafts.Draft.take.Goals as goal

@@ -6,9 +6,10 @@ use Rattle.nestformat.specs.Due.{contents_due}
 use Rattle.nestfile.specs.declared.Parts.{Parts}
 use Rattle.nestfile.specs.declared.drafts.Draft.{Draft}
 use Rattle.nestfile.specs.declared.drafts.Phase.TheVariants.{Contents}
-use Rattle.nestfile.specs.LineItems.{item_or_fault}
 use Rattle.nestfile.specs.Drafts.{state_of, PhaseSound, Bare, Sized}
-use Rattle.nestfile.proofs.Steps.{item_fits, entry_read, entry_faulty, entry_pushed, entry_step, same_rows, taken, refused_result, same_atoms}
+use Rattle.nestfile.proofs.Steps.{item_fits, entry_pushed, entry_step, same_rows, taken, refused_result, same_atoms}
+use Rattle.nestlines.specs.LineItems.{item_or_fault}
+use Rattle.nestlines.proofs.Placed.{entry_read, entry_faulty}
 use Rattle.nestfile.proofs.drafts.Draft.take_entry.Goals as goal
 
 pub returns-in_err-entry-clause-taken : goal.returns-in_err-entry-clause-taken

@@ -5,9 +5,10 @@ use Rattle.nestformat.specs.Due.{heading_due}
 use Rattle.nestfile.specs.declared.Parts.{Parts}
 use Rattle.nestfile.specs.declared.drafts.Draft.{Draft}
 use Rattle.nestfile.specs.declared.drafts.Phase.TheVariants.{Heading, Contents}
-use Rattle.nestfile.specs.LineItems.{item_or_fault}
 use Rattle.nestfile.specs.Drafts.{state_of, PhaseSound, Bare, Sized}
-use Rattle.nestfile.proofs.Steps.{item_fits, heading_read, heading_faulty, heading_step, same_rows, taken, refused_result, same_atoms}
+use Rattle.nestfile.proofs.Steps.{item_fits, heading_step, same_rows, taken, refused_result, same_atoms}
+use Rattle.nestlines.specs.LineItems.{item_or_fault}
+use Rattle.nestlines.proofs.Placed.{heading_read, heading_faulty}
 use Rattle.nestfile.proofs.drafts.Draft.take_heading.Goals as goal
 
 pub returns-in_err-heading-clause-taken : goal.returns-in_err-heading-clause-taken

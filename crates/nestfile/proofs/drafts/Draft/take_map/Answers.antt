@@ -5,11 +5,12 @@ use Rattle.nestformat.specs.Items.{row_line}
 use Rattle.nestformat.specs.Due.{map_due, host_of}
 use Rattle.nestfile.specs.declared.drafts.Draft.{Draft}
 use Rattle.nestfile.specs.declared.drafts.Phase.TheVariants.{Map}
-use Rattle.nestfile.specs.LineItems.{item_or_fault}
 use Rattle.nestfile.specs.Drafts.{state_of, PhaseSound, Bare, Sized}
-use Rattle.nestfile.proofs.RowLines.{map_read, map_unread}
+use Rattle.nestlines.specs.LineItems.{item_or_fault}
+use Rattle.nestlines.proofs.RowLines.{map_unread}
+use Rattle.nestlines.proofs.Placed.{told_same}
+use Rattle.nestfile.proofs.RowsRead.{map_read}
 use Rattle.nestfile.proofs.Steps.{map_step, atoms_few, taken, refused, refused_result}
-use Rattle.nestfile.proofs.Turns.{told_same}
 use Rattle.nestfile.proofs.drafts.Draft.take_map.Goals as goal
 
 pub returns-in_err-read_row-clause-taken : goal.returns-in_err-read_row-clause-taken
@@ -18,7 +19,7 @@ returns-in_err-read_row-clause-taken c =
     let r = c.args.reader.now in
     let g = c.in_err-read_row.field-0.0 in
     let e : c.from_residual.result ≡ Err g = search rules in
-    refused_result (item_or_fault (map_due c.args.entry) (state_of old) (left r)) (line_number r) c.from_residual.result g old _ e (map_unread c.args.entry (state_of old) (line_number r) c.letter-body.result (left r) (entries c.read_row.new.numbers) g c.letter-body.ensures c.in_err-read_row.ensures.read)
+    refused_result (item_or_fault (map_due c.args.entry) (state_of old) (left r)) (line_number r) c.from_residual.result g old _ e (map_unread c.args.entry (state_of old) (line_number r) c.letter-body.result (left r) (entries c.read_row.new.numbers) g c.requires.few c.letter-body.ensures c.in_err-read_row.ensures.read)
 
 pub add_map-requires-clause-near : goal.add_map-requires-clause-near
 add_map-requires-clause-near c = atoms_few (host_of c.args.entry.kind) (entries c.args.self.now.parts.contents) c.requires.sound.good
@@ -27,7 +28,7 @@ pub returns-in-Err-clause-taken : goal.returns-in-Err-clause-taken
 returns-in-Err-clause-taken c =
     let s = state_of c.args.self.now in
     let read = c.in_ok-read_row.ensures.read in
-    refused _ _ _ _ _ _ _ (map_read c.args.entry s (left c.args.reader.now) (entries c.read_row.new.numbers) c.as_slice.result.now (Some c.in-Err.cause) read.0 read.1 c.as_slice.ensures c.in-Err.ensures.refused) (told_same _ _ _ _ _ _ _ c.at.ensures refl c.line-line.ensures c.letter-body.ensures)
+    refused _ _ _ _ _ _ _ (map_read c.args.entry s (left c.args.reader.now) (entries c.read_row.new.numbers) c.as_slice.result.now (Some c.in-Err.cause) read.0 read.1 c.as_slice.ensures c.in-Err.ensures.refused) (told_same _ _ _ _ _ _ _ c.row_fault.ensures refl c.line-line.ensures c.letter-body.ensures)
 
 pub returns-clause-taken : goal.returns-clause-taken
 returns-clause-taken c =

@@ -5,9 +5,10 @@ use Rattle.nestformat.specs.Items.{body_line}
 use Rattle.nestformat.specs.Due.{body_due, bodies_due, due}
 use Rattle.nestfile.specs.declared.drafts.Draft.{Draft}
 use Rattle.nestfile.specs.declared.drafts.Phase.TheVariants.{Bodies}
-use Rattle.nestfile.specs.LineItems.{item_or_fault}
 use Rattle.nestfile.specs.Drafts.{slots, state_of, Bare, Sized}
-use Rattle.nestfile.proofs.Steps.{opening_read, opening_faulty, opening_step, opened_by, next_ranged, atoms_near, taken, refused_result}
+use Rattle.nestfile.proofs.Steps.{opening_step, opened_by, next_ranged, atoms_near, taken, refused_result}
+use Rattle.nestlines.specs.LineItems.{item_or_fault}
+use Rattle.nestlines.proofs.Placed.{opening_read, opening_faulty}
 use Rattle.nestfile.proofs.drafts.Draft.take_opening.Goals as goal
 
 pub returns-in_err-read_opening-clause-taken : goal.returns-in_err-read_opening-clause-taken

@@ -7,11 +7,12 @@ use Rattle.nestformat.specs.Due.{row_due}
 use Rattle.nestfile.specs.declared.drafts.Draft.{Draft}
 use Rattle.nestfile.specs.declared.drafts.Phase.TheVariants.{Rows}
 use Rattle.nestfile.specs.Bodies.{rows_of, clauses_in}
-use Rattle.nestfile.specs.LineItems.{item_or_fault}
 use Rattle.nestfile.specs.Drafts.{state_of, clauses_opened, PhaseSound, Bare, Sized}
-use Rattle.nestfile.proofs.RowLines.{row_read, row_unread}
+use Rattle.nestlines.specs.LineItems.{item_or_fault}
+use Rattle.nestlines.proofs.RowLines.{row_unread}
+use Rattle.nestlines.proofs.Placed.{told_same}
+use Rattle.nestfile.proofs.RowsRead.{row_read}
 use Rattle.nestfile.proofs.Steps.{row_step, atoms_few, taken, refused, refused_result}
-use Rattle.nestfile.proofs.Turns.{told_same}
 use Rattle.nestfile.proofs.drafts.Draft.take_row.Goals as goal
 
 pub returns-in_err-read_row-clause-taken : goal.returns-in_err-read_row-clause-taken
@@ -20,7 +21,7 @@ returns-in_err-read_row-clause-taken c =
     let r = c.args.reader.now in
     let g = c.in_err-read_row.field-0.0 in
     let e : c.from_residual.result ≡ Err g = search rules in
-    refused_result (item_or_fault (row_due c.args.entry) (state_of old) (left r)) (line_number r) c.from_residual.result g old _ e (row_unread c.args.entry (state_of old) (line_number r) c.letter-body.result (left r) (entries c.read_row.new.numbers) g c.letter-body.ensures c.in_err-read_row.ensures.read)
+    refused_result (item_or_fault (row_due c.args.entry) (state_of old) (left r)) (line_number r) c.from_residual.result g old _ e (row_unread c.args.entry (state_of old) (line_number r) c.letter-body.result (left r) (entries c.read_row.new.numbers) g c.requires.few c.letter-body.ensures c.in_err-read_row.ensures.read)
 
 pub add_row-requires-clause-near : goal.add_row-requires-clause-near
 add_row-requires-clause-near c = atoms_few Outer (entries c.args.self.now.parts.contents) c.requires.sound.good
@@ -30,7 +31,7 @@ returns-in-Err-clause-taken c =
     let old = c.args.self.now in
     let read = c.in_ok-read_row.ensures.read in
     let ph : PhaseSound old.parts old.opened (Rows c.args.entry c.args.count c.args.next) = subst (PhaseSound old.parts old.opened) c.requires.phase c.requires.sound.phase in
-    refused _ _ _ _ _ _ _ (row_read c.args.entry (state_of old) (left c.args.reader.now) (entries c.read_row.new.numbers) c.as_slice.result.now (clauses_in old.parts c.args.entry.kind) (Some c.in-Err.cause) read.0 read.1 c.as_slice.ensures (ap (clauses_opened old.parts) (sym ph.opened)) c.in-Err.ensures.refused) (told_same _ _ _ _ _ _ _ c.at.ensures refl c.line-line.ensures c.letter-body.ensures)
+    refused _ _ _ _ _ _ _ (row_read c.args.entry (state_of old) (left c.args.reader.now) (entries c.read_row.new.numbers) c.as_slice.result.now (clauses_in old.parts c.args.entry.kind) (Some c.in-Err.cause) read.0 read.1 c.as_slice.ensures (ap (clauses_opened old.parts) (sym ph.opened)) c.in-Err.ensures.refused) (told_same _ _ _ _ _ _ _ c.row_fault.ensures refl c.line-line.ensures c.letter-body.ensures)
 
 pub returns-clause-taken : goal.returns-clause-taken
 returns-clause-taken c =

@@ -1,6 +1,0 @@
-use Rattle.std.proofs.Common.{◌≡◌, take, map, pos}
-use Rattle.tables.specs.Items.{entries}
-use Rattle.nestfile.proofs.numbers.atoms_named.Given as goal
-
-abbrev pub invariant-loop-number : goal.invariant-loop-number
-invariant-loop-number l = map pos (entries l.named) ≡ take l.number-index l.numbers
