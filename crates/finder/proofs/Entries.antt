@@ -5,7 +5,6 @@ use Rattle.std.proofs.lemmas.Bool.{and_from, and_parts, cond-true, cond-false, c
 use Rattle.assignments.specs.Limits.{atom_limit}
 use Rattle.tables.specs.Items.{entries}
 use Rattle.nestformat.specs.declared.kinds.BodyKind.{BodyKind}
-use Rattle.nestformat.specs.declared.kinds.BodyKind.TheVariants.{Outer}
 use Rattle.nestformat.specs.declared.kinds.Contents.{Contents}
 use Rattle.nestformat.specs.Limits.{within}
 use Rattle.nestformat.specs.Kinds.{same_kind, has_clauses, atoms_in, in_ranges, size_range, own_range, rows_range}

@@ -16,7 +16,7 @@ use Rattle.loads.specs.declared.row.Row.{Row}
 use Rattle.nested.specs.Nests.{is_atom as is_mapped}
 use Rattle.nested.specs.Shaping.{refusal_of_shaping}
 use Rattle.nestformat.specs.declared.kinds.BodyKind.{BodyKind}
-use Rattle.nestformat.specs.declared.kinds.BodyKind.TheVariants.{Outer, Nest, Below, Loop, Milliamperes, Lines}
+use Rattle.nestformat.specs.declared.kinds.BodyKind.TheVariants.{Outer, Nest, Below, Lines}
 use Rattle.nestformat.specs.declared.kinds.Contents.{Contents}
 use Rattle.nestformat.specs.Kinds.{has_clauses, has_map, atoms_in, size_range, own_range, rows_range}
 use Rattle.nestformat.specs.Limits.{line_limit, within}

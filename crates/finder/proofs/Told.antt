@@ -1,5 +1,5 @@
 -- What the code made of a problem's bodies is what the file says. Assumes nothing.
-use Rattle.std.proofs.Common.{◌≡◌, ℕ, ◌≤◌, true, List, [], ◌∷◌, map, ℤ, Option, Some, None, sym, refl, ap, ap₂, ◌∙◌, subst}
+use Rattle.std.proofs.Common.{◌≡◌, ℕ, ◌≤◌, true, List, [], ◌∷◌, map, ℤ, Option, Some, None, sym, ap, ap₂, ◌∙◌, subst}
 use Rattle.tables.specs.Items.{entries}
 use Rattle.vetoes.specs.Meaning.{Meaning}
 use Rattle.cycles.specs.declared.arc.Arc.{Arc}

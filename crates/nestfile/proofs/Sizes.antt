@@ -1,8 +1,8 @@
 -- The atoms of a problem's books, and which nests are there. Assumes nothing.
-use Rattle.std.proofs.Common.{◌≡◌, Bool, true, false, ◌||◌, List, [], ◌∷◌, map, Option, Some, None, is_some, IfSome, Bor, refl, sym, ap, subst, ◌∙◌, ⊎_elim}
+use Rattle.std.proofs.Common.{◌≡◌, true, false, ◌||◌, List, [], ◌∷◌, map, Option, Some, None, is_some, IfSome, Bor, refl, sym, ap, subst, ◌∙◌, ⊎_elim}
 use Rattle.std.specs.List.{AllByRecursion}
 use Rattle.std.specs.Option.{option_copied}
-use Rattle.std.proofs.lemmas.Bool.{both_ways, cases_Bool, and_from, and_parts, or_from, eq-eqb, eqb-true}
+use Rattle.std.proofs.lemmas.Bool.{both_ways, cases_Bool, and_from, and_parts, eq-eqb, eqb-true}
 use Rattle.tables.specs.Items.{entries}
 use Rattle.nestformat.specs.declared.kinds.BodyKind.{BodyKind}
 use Rattle.nestformat.specs.declared.kinds.BodyKind.TheVariants.{Outer, Nest, Below, Loop, Milliamperes, Lines}
