@@ -115,7 +115,7 @@ abbrev pub lacks_map : Phase → BodyKind → Bool
 lacks_map (Map e n) k = same_kind k e.kind
 lacks_map _ k = false
 
--- each book is over the atoms of its body, once it was opened and, where it is a nest, has its map
+-- the book of a body that was opened is over its atoms, any other over none; nothing is said of a nest whose map is due
 abbrev pub Sized : Parts → Phase → Type 0
 Sized p x = (k : BodyKind) → lacks_map x k ≡ false → book_atoms p k ≡ atoms_at k (opened_in x (entries p.contents))
 

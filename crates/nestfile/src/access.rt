@@ -1,14 +1,15 @@
 // The empty problem, and what a problem holds.
 ghost use Rattle.std.specs.Prelude.{◌≡◌, ◌≤◌, ◌∷◌, length, map, pos, is_some, IfSome};
 ghost use Rattle.tables.specs.Items.{entries};
-ghost use Rattle.nestfile.specs.Problems.{told, empty_problem};
 ghost use Rattle.clauses.specs.Books.{atoms_of, clauses_of};
 ghost use Rattle.nestlines.specs.Rows.{arc_numbers, load_numbers};
-ghost use Rattle.nestformat.specs.declared.kinds.BodyKind.TheVariants.{Outer, Nest, Below, Loop, Milliamperes, Lines};
 ghost use Rattle.nestformat.specs.Limits.{row_limit};
+ghost use Rattle.nestformat.specs.declared.kinds.BodyKind.TheVariants.{Outer, Nest, Below, Loop, Milliamperes, Lines};
 ghost use Rattle.nestformat.specs.Items.{contents_of};
 ghost use Rattle.nestformat.specs.Bodies.{rows_at};
 ghost use Rattle.nestformat.specs.Due.{listed, atoms_at};
+ghost use Rattle.nestfile.specs.Problems.{told, empty_problem};
+ghost use Rattle.nestfile.specs.Rows.{arc_numbers, load_numbers};
 
 use crate::{NestBody, Parts, Problem};
 use clauses::book::ClauseBook;

@@ -43,7 +43,7 @@ pub(crate) struct Parts {
     lines: Table<Row<Lines>, ROW_LIMIT>,
 }
 
-// A needle map, contents, and a body for each of them in their order: what a nest file says, whole.
+// A needle map, contents, and a body for each of them in their order: what a nest file says, whole. Each book of clauses is over the atoms that the contents give to its body.
 #[derive(Drop)]
 pub struct Problem {
     parts: Parts,
