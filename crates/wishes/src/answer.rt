@@ -7,7 +7,7 @@ use std::fmt;
 use std::process::ExitCode;
 
 #[derive(Drop)]
-pub enum Answer {
+pub(crate) enum Answer {
     // the least setting that has them all
     Setting(Line),
     // those that clash, in the order in which they are wished; none is needed where nothing is admitted
@@ -40,7 +40,7 @@ impl fmt::Display for Answer {
 }
 
 impl Answer {
-    pub fn status(&self) -> ExitCode {
+    pub(crate) fn status(&self) -> ExitCode {
         match self {
             Answer::Setting(_) | Answer::Clash(_) => ExitCode::SUCCESS,
             Answer::Refused(_) => ExitCode::FAILURE,

@@ -12,7 +12,10 @@ use std::alloc::{AllocError, Global};
 use vetoes::marks::blank_marks;
 
 // The numbers as literals; None where one is too large for any.
-pub fn literals_in(heap: Global, numbers: &[i32]) -> Result<Option<Vec<Literal>>, AllocError> {
+pub(crate) fn literals_in(
+    heap: Global,
+    numbers: &[i32],
+) -> Result<Option<Vec<Literal>>, AllocError> {
     let mut literals = Vec::new(heap);
     for number in numbers {
         let Ok(literal) = Literal::try_from(*number) else {
@@ -47,7 +50,7 @@ fn ticked(heap: Global, wishes: &[Literal], ticks: &[u8]) -> Result<Vec<Literal>
     Ok(clashing)
 }
 
-pub fn answer_to(
+pub(crate) fn answer_to(
     heap: Global,
     problem: &Problem,
     wishes: &[Literal],
