@@ -9,7 +9,6 @@ ghost use Rattle.nestformat.specs.Items.{contents_of};
 ghost use Rattle.nestformat.specs.Bodies.{rows_at};
 ghost use Rattle.nestformat.specs.Due.{listed, atoms_at};
 ghost use Rattle.nestfile.specs.Problems.{told, empty_problem};
-ghost use Rattle.nestfile.specs.Rows.{arc_numbers, load_numbers};
 
 use crate::{NestBody, Parts, Problem};
 use clauses::book::ClauseBook;
