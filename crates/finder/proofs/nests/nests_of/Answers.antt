@@ -28,8 +28,8 @@ returns c =
     let e = c.in-Some.entry in
     let b = c.in-Some-nest.body.now in
     let d = nest_described h e b (entry_is h Nest c.contents.result.now c.entry_of.result (Some e) c.contents.ensures c.entry_of.ensures c.in-Some.is) c.in-Some-nest.ensures.rows in
-    let fits = not_refused_over (body_at Nest (told h).bodies) _ (below_means (told h)).reach e.own (entries b.map) c.as_slice.result.now (clauses_of b.book) d (ap (λ (x : Meaning). x.reach) c.below_of-below.ensures) c.as_slice.ensures in
     let under : nest_means (plan_of c.in-Ok.nest.below.shape) silent ≡ below_means (told h) = rw c.in-Ok.ensures.below c.below_of-below.ensures in
+    let fits = not_refused_over (body_at Nest (told h).bodies) _ (below_means (told h)).reach e.own (entries b.map) c.as_slice.result.now (clauses_of b.book) d (ap (λ (x : Meaning). x.reach) c.below_of-below.ensures) c.as_slice.ensures in
     nest_is (body_at Nest (told h).bodies) (below_means (told h)).reach e.own (entries b.map) (clauses_of b.book) (plan_of c.in-Ok.nest.shape) (nest_means (plan_of c.in-Ok.nest.below.shape) silent) (below_means (told h)) d
     (c.in-Ok.ensures.plan fits.0 fits.1 ∙ ap (λ m. Some (with_all m e.own (clauses_of b.book))) c.as_slice.ensures) under
 
