@@ -26,16 +26,79 @@ fn tell<D: Display + Drop>(
     }
 }
 
-fn tell_counts(rt: &HostRuntime, book: &ClauseBook) -> io::Result<()> {
-    println!(rt; "held: {}", book.counts())
-}
-
 fn tell_fresh(rt: &HostRuntime, atoms: usize) -> io::Result<()> {
     let answer = ClauseBook::fresh(atoms).map(|_| ());
     tell(rt, format_args!("book over {atoms} atoms"), answer)
 }
 
-// Adds the clause so many times, and answers with the first refusal.
+// What is done with a book; the text tells it.
+#[derive(Clone, Copy)]
+enum Step<'a> {
+    // adds the clause so many times, up to the first refusal
+    Add(&'a str, usize, &'a [Literal]),
+    // whether all clauses are met by the assignment
+    Meet(&'a str, &'a [u8]),
+    CutBack(&'a str, Counts),
+    Count,
+}
+
+const LITERALS: &[Step] = &[
+    Step::Add("literal 0", 1, &[0]),
+    Step::Add("literal 1", 1, &[1]),
+    Step::Add("literal -1", 1, &[-1]),
+    Step::Add("literal 200", 1, &[200]),
+    Step::Add("literal -200", 1, &[-200]),
+    Step::Add("literal 201", 1, &[201]),
+    Step::Add("literal -201", 1, &[-201]),
+    Step::Add("literal 32767", 1, &[32767]),
+    Step::Add("literal -32768", 1, &[-32768]),
+    Step::Add("literals 1 and 201", 1, &[1, 201]),
+    Step::Count,
+];
+
+const EMPTY_CLAUSE: &[Step] = &[
+    Step::Meet("no clause held, 10 meets all", &[1, 0]),
+    Step::Add("empty clause", 1, &[]),
+    Step::Meet("empty clause held, 10 meets all", &[1, 0]),
+];
+
+const CLAUSE_TABLE: &[Step] = &[
+    Step::Add("400 clauses", 400, &[1]),
+    Step::Add("one clause more", 1, &[1]),
+    Step::Add("one more with literal 0", 1, &[0]),
+    Step::Count,
+];
+
+const LITERAL_TABLE: &[Step] = &[
+    Step::Add("2000 literals", 4, &[-2; 500]),
+    Step::Add("one literal more", 1, &[1]),
+    Step::Add("one more with literal 201", 1, &[201]),
+    Step::Add("an empty clause more", 1, &[]),
+    Step::Add("400 clauses", 395, &[]),
+    Step::Add("one literal in one clause more", 1, &[1]),
+    Step::Count,
+];
+
+const CUT_BACK: &[Step] = &[
+    Step::Add("clause 1 2", 1, &[1, 2]),
+    Step::Add("clause -1", 1, &[-1]),
+    Step::CutBack(
+        "cut back to 1 clause, 1 literal",
+        Counts {
+            clauses: 1,
+            literals: 1,
+        },
+    ),
+    Step::CutBack(
+        "cut back to 1 clause, 2 literals",
+        Counts {
+            clauses: 1,
+            literals: 2,
+        },
+    ),
+    Step::Count,
+];
+
 fn add_times(book: &mut ClauseBook, times: usize, clause: &[Literal]) -> Result<(), Refusal> {
     for _ in 0..times {
         book.add(clause)?;
@@ -43,60 +106,21 @@ fn add_times(book: &mut ClauseBook, times: usize, clause: &[Literal]) -> Result<
     Ok(())
 }
 
-fn literals(rt: &HostRuntime) -> anyhow::Result<()> {
-    let mut book = ClauseBook::fresh(200)?;
-    for literal in [0, 1, -1, 200, -200, 201, -201, 32767, -32768] {
-        tell(rt, format_args!("literal {literal}"), book.add(&[literal]))?;
+fn play_step(rt: &HostRuntime, book: &mut ClauseBook, step: Step) -> io::Result<()> {
+    match step {
+        Step::Add(what, times, clause) => tell(rt, what, add_times(book, times, clause)),
+        Step::Meet(what, assignment) => println!(rt; "{what}: {}", book.is_met_by(assignment)),
+        Step::CutBack(what, counts) => println!(rt; "{what}: {}", book.cut_back(counts)),
+        Step::Count => println!(rt; "held: {}", book.counts()),
     }
-    tell(rt, "literals 1 and 201", book.add(&[1, 201]))?;
-    tell_counts(rt, &book)?;
-    Ok(())
 }
 
-fn empty_clause(rt: &HostRuntime) -> anyhow::Result<()> {
-    let mut book = ClauseBook::fresh(2)?;
-    let met = book.is_met_by(&[1, 0]);
-    println!(rt; "no clause held, 10 meets all: {met}")?;
-    tell(rt, "empty clause", book.add(&[]))?;
-    let met = book.is_met_by(&[1, 0]);
-    println!(rt; "empty clause held, 10 meets all: {met}")?;
-    Ok(())
-}
-
-fn clause_table(rt: &HostRuntime) -> anyhow::Result<()> {
-    let mut book = ClauseBook::fresh(2)?;
-    tell(rt, "400 clauses", add_times(&mut book, 400, &[1]))?;
-    tell(rt, "one clause more", book.add(&[1]))?;
-    tell(rt, "one more with literal 0", book.add(&[0]))?;
-    tell_counts(rt, &book)?;
-    Ok(())
-}
-
-fn literal_table(rt: &HostRuntime) -> anyhow::Result<()> {
-    let mut book = ClauseBook::fresh(2)?;
-    tell(rt, "2000 literals", add_times(&mut book, 4, &[-2; 500]))?;
-    tell(rt, "one literal more", book.add(&[1]))?;
-    tell(rt, "one more with literal 201", book.add(&[201]))?;
-    tell(rt, "an empty clause more", book.add(&[]))?;
-    tell(rt, "400 clauses", add_times(&mut book, 395, &[]))?;
-    tell(rt, "one literal in one clause more", book.add(&[1]))?;
-    tell_counts(rt, &book)?;
-    Ok(())
-}
-
-fn cut_back(rt: &HostRuntime) -> anyhow::Result<()> {
-    let mut book = ClauseBook::fresh(2)?;
-    tell(rt, "clause 1 2", book.add(&[1, 2]))?;
-    let opening = book.counts();
-    tell(rt, "clause -1", book.add(&[-1]))?;
-    let other = book.cut_back(Counts {
-        clauses: 1,
-        literals: 1,
-    });
-    println!(rt; "cut back to 1 clause, 1 literal: {other}")?;
-    let back = book.cut_back(opening);
-    println!(rt; "cut back to 1 clause, 2 literals: {back}")?;
-    tell_counts(rt, &book)?;
+// The steps on a fresh book.
+fn play(rt: &HostRuntime, atoms: usize, steps: &[Step]) -> anyhow::Result<()> {
+    let mut book = ClauseBook::fresh(atoms)?;
+    for step in steps {
+        play_step(rt, &mut book, *step)?;
+    }
     Ok(())
 }
 
@@ -131,11 +155,11 @@ fn main(rt: HostRuntime) -> anyhow::Result<()> {
     for atoms in [0, 200, 201] {
         tell_fresh(&rt, atoms)?;
     }
-    literals(&rt)?;
-    empty_clause(&rt)?;
-    clause_table(&rt)?;
-    literal_table(&rt)?;
-    cut_back(&rt)?;
+    play(&rt, 200, LITERALS)?;
+    play(&rt, 2, EMPTY_CLAUSE)?;
+    play(&rt, 2, CLAUSE_TABLE)?;
+    play(&rt, 2, LITERAL_TABLE)?;
+    play(&rt, 2, CUT_BACK)?;
     scopes(&rt)?;
     for bytes in [60_000, 60_001] {
         text(&rt, bytes)?;

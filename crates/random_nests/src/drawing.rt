@@ -18,33 +18,54 @@ fn number(random: &mut Random, most: u8) -> u8 {
     random.below(most).saturating_add(1)
 }
 
+fn arc(random: &mut Random, top: u8) -> Arc {
+    Arc {
+        atom: number(random, top),
+        from: number(random, 3),
+        to: number(random, 3),
+    }
+}
+
+fn current(random: &mut Random, top: u8) -> Row<Milliamperes> {
+    Row {
+        atom: number(random, top),
+        load: u32::from(random.below(20)),
+    }
+}
+
+fn line(random: &mut Random, top: u8) -> Row<Lines> {
+    Row {
+        atom: number(random, top),
+        load: u16::from(random.below(16)),
+    }
+}
+
 impl Lists {
     pub fn draw(heap: Global, random: &mut Random) -> Result<Lists, AllocError> {
+        let mut lists = Lists {
+            arcs: Vec::new(heap),
+            currents: Vec::new(heap),
+            lines: Vec::new(heap),
+        };
+        lists.fill(random)?;
+        Ok(lists)
+    }
+
+    fn fill(&mut self, random: &mut Random) -> Result<(), AllocError> {
         let top = number(random, 5);
-        let arcs = 0..random.below(8);
-        let currents = 0..random.below(7);
-        let lines = 0..random.below(7);
-        Ok(Lists {
-            arcs: arcs
-                .map(|_| Arc {
-                    atom: number(random, top),
-                    from: number(random, 3),
-                    to: number(random, 3),
-                })
-                .collect(heap)?,
-            currents: currents
-                .map(|_| Row {
-                    atom: number(random, top),
-                    load: u32::from(random.below(20)),
-                })
-                .collect(heap)?,
-            lines: lines
-                .map(|_| Row {
-                    atom: number(random, top),
-                    load: u16::from(random.below(16)),
-                })
-                .collect(heap)?,
-        })
+        let arcs = random.below(8);
+        let currents = random.below(7);
+        let lines = random.below(7);
+        for _ in 0..arcs {
+            self.arcs.push(arc(random, top))?;
+        }
+        for _ in 0..currents {
+            self.currents.push(current(random, top))?;
+        }
+        for _ in 0..lines {
+            self.lines.push(line(random, top))?;
+        }
+        Ok(())
     }
 }
 

@@ -41,13 +41,14 @@ const KINDS: [Kind; 5] = [
 
 impl fmt::Display for Kind {
     fn fmt<W: fmt::Write>(&self, f: &mut fmt::Formatter<W>) -> fmt::Result {
-        match self {
-            Kind::Mute => write!(f, "mute"),
-            Kind::Cycle => write!(f, "cycle"),
-            Kind::Current => write!(f, "load of milliamperes"),
-            Kind::Lines => write!(f, "load of lines"),
-            Kind::CycleAndCurrent => write!(f, "pair of cycle and load"),
-        }
+        let name = match self {
+            Kind::Mute => "mute",
+            Kind::Cycle => "cycle",
+            Kind::Current => "load of milliamperes",
+            Kind::Lines => "load of lines",
+            Kind::CycleAndCurrent => "pair of cycle and load",
+        };
+        write!(f, "{name}")
     }
 }
 
@@ -63,30 +64,8 @@ enum Depth {
 
 const HOST: u8 = 4;
 
-// Over the veto, and over a twin of it that the definition asks.
-fn play<V: Veto + Drop>(
-    heap: Global,
-    random: &mut Random,
-    depth: Depth,
-    veto: V,
-    twin: V,
-    tally: &mut Tally,
-) -> Result<(), AllocError> {
-    let host = match depth {
-        Depth::One => HOST,
-        Depth::Two => HOST.saturating_add(1),
-    };
-    let Some((mut below, mut plain)) = nest(heap, random, veto, Asked::new(twin), host)? else {
-        tally.add_nest(false);
-        return Ok(());
-    };
-    match depth {
-        Depth::One => ask(heap, random, &mut below, &mut plain, host, tally),
-        Depth::Two => play_above(heap, random, below, plain, tally),
-    }
-}
-
-fn play_above<V: Veto + Drop, P: Plain + Drop>(
+// Asks a nest over both.
+fn play_nest<V: Veto + Drop, P: Plain + Drop>(
     heap: Global,
     random: &mut Random,
     below: V,
@@ -98,6 +77,37 @@ fn play_above<V: Veto + Drop, P: Plain + Drop>(
         return Ok(());
     };
     ask(heap, random, &mut above, &mut plain, HOST, tally)
+}
+
+// Asks a nest over a nest over both.
+fn play_two<V: Veto + Drop, P: Plain + Drop>(
+    heap: Global,
+    random: &mut Random,
+    veto: V,
+    plain: P,
+    tally: &mut Tally,
+) -> Result<(), AllocError> {
+    let host = HOST.saturating_add(1);
+    let Some((below, plain)) = nest(heap, random, veto, plain, host)? else {
+        tally.add_nest(false);
+        return Ok(());
+    };
+    play_nest(heap, random, below, plain, tally)
+}
+
+// Over the veto, and over a twin of it that the definition asks.
+fn play<V: Veto + Drop>(
+    heap: Global,
+    random: &mut Random,
+    depth: Depth,
+    veto: V,
+    twin: V,
+    tally: &mut Tally,
+) -> Result<(), AllocError> {
+    match depth {
+        Depth::One => play_nest(heap, random, veto, Asked::new(twin), tally),
+        Depth::Two => play_two(heap, random, veto, Asked::new(twin), tally),
+    }
 }
 
 fn play_over(
@@ -133,15 +143,24 @@ fn play_over(
     }
 }
 
+fn play_numbered(
+    heap: Global,
+    depth: Depth,
+    kind: Kind,
+    number: u64,
+    tally: &mut Tally,
+) -> Result<(), AllocError> {
+    let seed = number.wrapping_mul(8).wrapping_add(kind as u64);
+    let mut random = Random::new(seed.wrapping_add(1));
+    let lists = Lists::draw(heap, &mut random)?;
+    play_over(heap, &mut random, depth, kind, &lists, tally)
+}
+
 // Answers whether nothing differed.
 fn play_kind(rt: &HostRuntime, depth: Depth, kind: Kind) -> anyhow::Result<bool> {
-    let heap = rt.alloc();
     let mut tally = Tally::new();
     for number in 0..NESTS {
-        let seed = number.wrapping_mul(8).wrapping_add(kind as u64);
-        let mut random = Random::new(seed.wrapping_add(1));
-        let lists = Lists::draw(heap, &mut random)?;
-        play_over(heap, &mut random, depth, kind, &lists, &mut tally)?;
+        play_numbered(rt.alloc(), depth, kind, number, &mut tally)?;
     }
     match depth {
         Depth::One => println!(rt; "over {kind}: {tally}")?,

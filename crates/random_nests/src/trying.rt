@@ -2,6 +2,7 @@
 use crate::drawing::{bytes, clause, map};
 use crate::plain::{Plain, PlainNest};
 use crate::tally::Tally;
+use assignments::Literal;
 use nested::nested::Nested;
 use random::Random;
 use refusals::Refusal;
@@ -10,6 +11,40 @@ use vetoes::veto::{Verdict, Veto};
 
 // How often each nest is asked.
 const QUESTIONS: u32 = 40;
+
+// Adds a random clause to both; answers whether the nest takes it.
+fn add_clause<V: Veto>(
+    heap: Global,
+    random: &mut Random,
+    atoms: u8,
+    nest: &mut Nested<V>,
+    clauses: &mut Vec<Vec<Literal>>,
+) -> Result<bool, AllocError> {
+    let drawn = if atoms > 0 {
+        clause(heap, random, atoms)?
+    } else {
+        Vec::new(heap)
+    };
+    let right = nest.add(drawn.as_slice()).is_ok();
+    clauses.push(drawn)?;
+    Ok(right)
+}
+
+// Gives the nest the map and the own atoms of the plain one, and both some clauses; answers whether the nest takes all.
+fn describe<V: Veto, P>(
+    heap: Global,
+    random: &mut Random,
+    nest: &mut Nested<V>,
+    plain: &mut PlainNest<P>,
+    atoms: u8,
+) -> Result<bool, AllocError> {
+    let shaped = nest.shape(plain.map.as_slice(), usize::from(plain.own));
+    let mut right = shaped.is_ok();
+    for _ in 0..random.below(5) {
+        right &= add_clause(heap, random, atoms, nest, &mut plain.clauses)?;
+    }
+    Ok(right)
+}
 
 // A nest over both, unshaped at times, else with a random map into so many host atoms and random clauses. Answers none where the
 // nest refuses what it should not.
@@ -35,18 +70,8 @@ pub fn nest<V: Veto + Drop, P: Plain + Drop>(
         plain.map.clear();
         return Ok(Some((nest, plain)));
     }
-    let mut right = nest.shape(plain.map.as_slice(), usize::from(own)).is_ok();
     let atoms = count.saturating_add(own);
-    for _ in 0..random.below(5) {
-        let drawn = if atoms > 0 {
-            clause(heap, random, atoms)?
-        } else {
-            Vec::new(heap)
-        };
-        right = right && nest.add(drawn.as_slice()).is_ok();
-        plain.clauses.push(drawn)?;
-    }
-    if right {
+    if describe(heap, random, &mut nest, &mut plain, atoms)? {
         Ok(Some((nest, plain)))
     } else {
         Ok(None)
@@ -66,6 +91,19 @@ fn ticked(heap: Global, assignment: &[u8], ticks: &[u8]) -> Result<Option<Vec<u8
     Ok(Some(part))
 }
 
+// Whether the definition speaks at the ticked atoms alone.
+fn is_reason<P: Plain>(
+    heap: Global,
+    plain: &mut P,
+    assignment: &[u8],
+    ticks: &[u8],
+) -> Result<bool, AllocError> {
+    match ticked(heap, assignment, ticks)? {
+        Some(part) => Ok(plain.speaks(part.as_slice())),
+        None => Ok(false),
+    }
+}
+
 // Whether the answer is what the definition gives, in every byte of the ticks.
 fn is_right<P: Plain>(
     heap: Global,
@@ -82,10 +120,23 @@ fn is_right<P: Plain>(
         return Ok(answer == Ok(Verdict::Silent) && after == before);
     }
     let stays = after.get(assignment.len()..) == before.get(assignment.len()..);
-    match ticked(heap, assignment, after)? {
-        Some(part) => Ok(answer == Ok(Verdict::Speaks) && stays && plain.speaks(part.as_slice())),
-        None => Ok(false),
-    }
+    Ok(answer == Ok(Verdict::Speaks) && stays && is_reason(heap, plain, assignment, after)?)
+}
+
+// Asks both at the assignment, with a buffer that holds the bytes before.
+fn compare<V: Veto, P: Plain>(
+    heap: Global,
+    nest: &mut V,
+    plain: &mut P,
+    assignment: &[u8],
+    before: &[u8],
+    tally: &mut Tally,
+) -> Result<(), AllocError> {
+    let mut after = Vec::from_slice(heap, before)?;
+    let answer = nest.examine(assignment, after.as_mut_slice());
+    let right = is_right(heap, plain, assignment, before, after.as_slice(), answer)?;
+    tally.add_answer(answer, right);
+    Ok(())
 }
 
 // Asks at random assignments, partial ones too, of up to three atoms more than the host has.
@@ -103,17 +154,14 @@ pub fn ask<V: Veto, P: Plain>(
         let assignment = bytes(heap, random, count)?;
         let room = count.saturating_add(2).saturating_sub(random.below(4));
         let before = bytes(heap, random, room)?;
-        let mut after = before.clone()?;
-        let answer = nest.examine(assignment.as_slice(), after.as_mut_slice());
-        let right = is_right(
+        compare(
             heap,
+            nest,
             plain,
             assignment.as_slice(),
             before.as_slice(),
-            after.as_slice(),
-            answer,
+            tally,
         )?;
-        tally.add_answer(answer, right);
     }
     Ok(())
 }

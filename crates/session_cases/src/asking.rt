@@ -1,59 +1,51 @@
 // What ask finds, and which assumptions clash where it finds none.
-use crate::telling::{ask, next, tell};
-use cycles::arc::Arc;
+use crate::calls::{BOTH_WAYS, Call, play};
 use cycles::cycle::Cycle;
-use session::session::Session;
 use std::io;
 use vetoes::mute::Mute;
 
 // Of equal assumptions that clash with a clause one is needed, and of two that differ in sign both.
-fn equal_assumptions(rt: &HostRuntime) -> io::Result<()> {
-    let mut session = Session::new(Mute);
-    println!(rt; "equal assumptions")?;
-    tell(rt, "size 2", session.size(2))?;
-    ask(rt, &mut session, &[2, -2])?;
-    ask(rt, &mut session, &[1, 1, 1])?;
-    ask(rt, &mut session, &[1, -1, 1, -1])?;
-    tell(rt, "clause -1", session.clause(&[-1]))?;
-    ask(rt, &mut session, &[1, 1, 2])?;
-    ask(rt, &mut session, &[2, 1, 1])
-}
+const EQUAL_ASSUMPTIONS: &[Call] = &[
+    Call::Size(2),
+    Call::Ask(&[2, -2], 4, 4),
+    Call::Ask(&[1, 1, 1], 4, 4),
+    Call::Ask(&[1, -1, 1, -1], 4, 4),
+    Call::Clause(&[-1]),
+    Call::Ask(&[1, 1, 2], 4, 4),
+    Call::Ask(&[2, 1, 1], 4, 4),
+];
 
 // No clause; then no atom; then nothing that is admitted, so that no assumption is needed for the clash.
-fn empty_problem(rt: &HostRuntime) -> io::Result<()> {
-    let mut session = Session::new(Mute);
-    println!(rt; "an empty problem")?;
-    tell(rt, "size 3", session.size(3))?;
-    ask(rt, &mut session, &[])?;
-    ask(rt, &mut session, &[2])?;
-    ask(rt, &mut session, &[-1, -3])?;
-    tell(rt, "size 0", session.size(0))?;
-    ask(rt, &mut session, &[])?;
-    tell(rt, "clause", session.clause(&[]))?;
-    ask(rt, &mut session, &[])
-}
+const EMPTY_PROBLEM: &[Call] = &[
+    Call::Size(3),
+    Call::Ask(&[], 4, 4),
+    Call::Ask(&[2], 4, 4),
+    Call::Ask(&[-1, -3], 4, 4),
+    Call::Size(0),
+    Call::Ask(&[], 4, 4),
+    Call::Clause(&[]),
+    Call::Ask(&[], 4, 4),
+];
 
-fn over_a_cycle(rt: &HostRuntime) -> io::Result<()> {
-    let arcs = [(1, 1, 2), (2, 2, 1)].map(|(atom, from, to)| Arc { atom, from, to });
-    let mut session = Session::new(Cycle::new(&arcs[..]));
-    println!(rt; "arcs both ways by 1 and 2")?;
-    tell(rt, "size 3", session.size(3))?;
-    ask(rt, &mut session, &[])?;
-    ask(rt, &mut session, &[2, -2])?;
-    ask(rt, &mut session, &[3, 3])?;
-    ask(rt, &mut session, &[3, 1, 2])?;
-    ask(rt, &mut session, &[2, -1])?;
-    tell(rt, "clause 1", session.clause(&[1]))?;
-    ask(rt, &mut session, &[3, 2])?;
-    for _ in 0..3 {
-        next(rt, &mut session)?;
-    }
-    tell(rt, "clause", session.clause(&[]))?;
-    ask(rt, &mut session, &[3, 2])
-}
+const OVER_A_CYCLE: &[Call] = &[
+    Call::Size(3),
+    Call::Ask(&[], 4, 4),
+    Call::Ask(&[2, -2], 4, 4),
+    Call::Ask(&[3, 3], 4, 4),
+    Call::Ask(&[3, 1, 2], 4, 4),
+    Call::Ask(&[2, -1], 4, 4),
+    Call::Clause(&[1]),
+    Call::Ask(&[3, 2], 4, 4),
+    Call::Next(4),
+    Call::Next(4),
+    Call::Next(4),
+    Call::Clause(&[]),
+    Call::Ask(&[3, 2], 4, 4),
+];
 
 pub fn asking(rt: &HostRuntime) -> io::Result<()> {
-    equal_assumptions(rt)?;
-    empty_problem(rt)?;
-    over_a_cycle(rt)
+    let cycle = Cycle::new(&BOTH_WAYS[..]);
+    play(rt, "equal assumptions", Mute, EQUAL_ASSUMPTIONS)?;
+    play(rt, "an empty problem", Mute, EMPTY_PROBLEM)?;
+    play(rt, "arcs both ways by 1 and 2", cycle, OVER_A_CYCLE)
 }

@@ -1,67 +1,62 @@
 // What next hands out: over no atom, over two, and as clauses come and go.
-use crate::telling::{next, tell};
-use session::session::Session;
+use crate::calls::{Call, play};
 use std::io;
 use vetoes::mute::Mute;
-use vetoes::veto::Veto;
 
-fn next_times<V: Veto>(rt: &HostRuntime, session: &mut Session<V>, times: usize) -> io::Result<()> {
-    for _ in 0..times {
-        next(rt, session)?;
-    }
-    Ok(())
-}
+const NO_ATOM: &[Call] = &[
+    Call::Size(0),
+    Call::Next(4),
+    Call::Next(4),
+    Call::Rewind,
+    Call::Next(4),
+    Call::Clause(&[]),
+    Call::Next(4),
+];
 
-fn no_atom(rt: &HostRuntime) -> io::Result<()> {
-    let mut session = Session::new(Mute);
-    println!(rt; "no atom")?;
-    tell(rt, "size 0", session.size(0))?;
-    next_times(rt, &mut session, 2)?;
-    tell(rt, "rewind", session.rewind())?;
-    next(rt, &mut session)?;
-    tell(rt, "clause", session.clause(&[]))?;
-    next(rt, &mut session)
-}
-
-fn two_atoms(rt: &HostRuntime) -> io::Result<()> {
-    let mut session = Session::new(Mute);
-    println!(rt; "one of two atoms")?;
-    tell(rt, "size 2", session.size(2))?;
-    tell(rt, "clause 1 2", session.clause(&[1, 2]))?;
-    next_times(rt, &mut session, 5)
-}
+const TWO_ATOMS: &[Call] = &[
+    Call::Size(2),
+    Call::Clause(&[1, 2]),
+    Call::Next(4),
+    Call::Next(4),
+    Call::Next(4),
+    Call::Next(4),
+    Call::Next(4),
+];
 
 // A clause that comes later keeps the position, and rules the one handed out last out.
-fn clause_between(rt: &HostRuntime) -> io::Result<()> {
-    let mut session = Session::new(Mute);
-    println!(rt; "a clause after the first")?;
-    tell(rt, "size 2", session.size(2))?;
-    tell(rt, "clause 1 2", session.clause(&[1, 2]))?;
-    next(rt, &mut session)?;
-    tell(rt, "clause -2", session.clause(&[-2]))?;
-    next_times(rt, &mut session, 2)?;
-    tell(rt, "rewind", session.rewind())?;
-    next_times(rt, &mut session, 2)
-}
+const CLAUSE_BETWEEN: &[Call] = &[
+    Call::Size(2),
+    Call::Clause(&[1, 2]),
+    Call::Next(4),
+    Call::Clause(&[-2]),
+    Call::Next(4),
+    Call::Next(4),
+    Call::Rewind,
+    Call::Next(4),
+    Call::Next(4),
+];
 
-fn clause_in_a_scope(rt: &HostRuntime) -> io::Result<()> {
-    let mut session = Session::new(Mute);
-    println!(rt; "a clause in a scope")?;
-    tell(rt, "size 2", session.size(2))?;
-    tell(rt, "clause 1 2", session.clause(&[1, 2]))?;
-    next(rt, &mut session)?;
-    tell(rt, "open", session.open())?;
-    tell(rt, "clause -2", session.clause(&[-2]))?;
-    next_times(rt, &mut session, 3)?;
-    tell(rt, "close", session.close())?;
-    next_times(rt, &mut session, 4)?;
-    tell(rt, "rewind", session.rewind())?;
-    next(rt, &mut session)
-}
+const CLAUSE_IN_A_SCOPE: &[Call] = &[
+    Call::Size(2),
+    Call::Clause(&[1, 2]),
+    Call::Next(4),
+    Call::Open,
+    Call::Clause(&[-2]),
+    Call::Next(4),
+    Call::Next(4),
+    Call::Next(4),
+    Call::Close,
+    Call::Next(4),
+    Call::Next(4),
+    Call::Next(4),
+    Call::Next(4),
+    Call::Rewind,
+    Call::Next(4),
+];
 
 pub fn listing(rt: &HostRuntime) -> io::Result<()> {
-    no_atom(rt)?;
-    two_atoms(rt)?;
-    clause_between(rt)?;
-    clause_in_a_scope(rt)
+    play(rt, "no atom", Mute, NO_ATOM)?;
+    play(rt, "one of two atoms", Mute, TWO_ATOMS)?;
+    play(rt, "a clause after the first", Mute, CLAUSE_BETWEEN)?;
+    play(rt, "a clause in a scope", Mute, CLAUSE_IN_A_SCOPE)
 }

@@ -2,9 +2,9 @@
 #![tactic(auto)]
 
 mod asking;
+mod calls;
 mod listing;
 mod refusing;
-mod telling;
 
 use crate::asking::asking;
 use crate::listing::listing;
