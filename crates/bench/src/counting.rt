@@ -7,13 +7,13 @@ use std::cell::Cell;
 use vetoes::veto::{Verdict, Veto};
 
 #[derive(Drop)]
-pub struct Counting<'a, V> {
+pub(crate) struct Counting<'a, V> {
     veto: V,
     nodes: &'a Cell<u64>,
 }
 
 impl<'a, V: Veto> Counting<'a, V> {
-    pub fn new(veto: V, nodes: &'a Cell<u64>) -> Counting<'a, V> {
+    pub(crate) fn new(veto: V, nodes: &'a Cell<u64>) -> Counting<'a, V> {
         Counting { veto, nodes }
     }
 }

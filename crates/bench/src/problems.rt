@@ -5,7 +5,7 @@ use random::Random;
 use std::alloc::{AllocError, Global};
 
 #[derive(Drop)]
-pub struct Problem {
+pub(crate) struct Problem {
     pub atoms: u8,
     pub clauses: Vec<Vec<Literal>>,
     pub arcs: Vec<Arc>,
@@ -65,7 +65,7 @@ fn past(number: u8, taken: u8) -> u8 {
 }
 
 // So many random clauses of three literals.
-pub fn three_clauses(
+pub(crate) fn three_clauses(
     heap: Global,
     random: &mut Random,
     atoms: u8,
@@ -77,7 +77,7 @@ pub fn three_clauses(
 }
 
 // Every atom true, as assumptions.
-pub fn all_true(heap: Global, atoms: u8) -> Result<Vec<Literal>, AllocError> {
+pub(crate) fn all_true(heap: Global, atoms: u8) -> Result<Vec<Literal>, AllocError> {
     (1..=atoms).map(i16::from).collect(heap)
 }
 
@@ -92,7 +92,7 @@ fn arc(random: &mut Random, atom: u8, signals: u8) -> Arc {
 }
 
 // Atoms in pairs, each atom with random arcs, and for each pair a clause that wants one of the two.
-pub fn arc_pairs(
+pub(crate) fn arc_pairs(
     heap: Global,
     random: &mut Random,
     pairs: u8,
@@ -158,7 +158,7 @@ impl Holes {
 }
 
 // Pigeons, each in some hole and no two in one, with one hole too few.
-pub fn pigeons(heap: Global, count: u8) -> Result<Problem, AllocError> {
+pub(crate) fn pigeons(heap: Global, count: u8) -> Result<Problem, AllocError> {
     let mut holes = Holes {
         heap,
         count,

@@ -9,7 +9,7 @@ use std::str::FromStr;
 const SIGNALS: u8 = 60;
 
 #[derive(Clone, Copy)]
-pub enum Case {
+pub(crate) enum Case {
     // the hard ratio, 4.26 clauses of three literals for each atom
     Hard,
     // the same, and all answers
@@ -29,7 +29,7 @@ pub enum Case {
 
 // A word that names no case.
 #[derive(Debug, Drop)]
-pub struct UnknownCase;
+pub(crate) struct UnknownCase;
 
 impl fmt::Display for UnknownCase {
     fn fmt<W: fmt::Write>(&self, f: &mut fmt::Formatter<W>) -> fmt::Result {
@@ -76,7 +76,7 @@ impl FromStr for Case {
 }
 
 impl Case {
-    pub fn most_answers(self) -> u32 {
+    pub(crate) fn most_answers(self) -> u32 {
         match self {
             Case::Every => 1000000,
             Case::Loose => 100,
@@ -90,7 +90,7 @@ fn hard_count(atoms: u32) -> u32 {
 }
 
 #[derive(Clone, Copy)]
-pub struct Task {
+pub(crate) struct Task {
     pub case: Case,
     pub size: u8,
     pub seed: u64,
@@ -103,7 +103,7 @@ impl fmt::Display for Task {
 }
 
 impl Task {
-    pub fn problem(self, heap: Global) -> Result<Problem, AllocError> {
+    pub(crate) fn problem(self, heap: Global) -> Result<Problem, AllocError> {
         let mut random = Random::new(self.seed);
         let size = self.size;
         let atoms = u32::from(size);

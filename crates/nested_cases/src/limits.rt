@@ -51,7 +51,7 @@ fn all_own(rt: &HostRuntime) -> anyhow::Result<()> {
     Ok(())
 }
 
-pub fn limits(rt: &HostRuntime) -> anyhow::Result<()> {
+pub(crate) fn limits(rt: &HostRuntime) -> anyhow::Result<()> {
     all_seen(rt)?;
     all_own(rt)
 }

@@ -111,7 +111,7 @@ fn complements(rt: &HostRuntime) -> anyhow::Result<()> {
     Ok(())
 }
 
-pub fn nests(rt: &HostRuntime) -> anyhow::Result<()> {
+pub(crate) fn nests(rt: &HostRuntime) -> anyhow::Result<()> {
     nest_of_a_nest(rt)?;
     shared_atom(rt)?;
     no_own_atom(rt)?;

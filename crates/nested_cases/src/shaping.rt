@@ -93,7 +93,7 @@ fn clauses(rt: &HostRuntime) -> anyhow::Result<()> {
     Ok(())
 }
 
-pub fn shaping(rt: &HostRuntime) -> anyhow::Result<()> {
+pub(crate) fn shaping(rt: &HostRuntime) -> anyhow::Result<()> {
     unshaped(rt)?;
     shapes(rt)?;
     kept(rt)?;

@@ -48,7 +48,7 @@ fn settings(rt: &HostRuntime) -> anyhow::Result<()> {
     Ok(())
 }
 
-pub fn stall(rt: &HostRuntime) -> anyhow::Result<()> {
+pub(crate) fn stall(rt: &HostRuntime) -> anyhow::Result<()> {
     verdicts(rt)?;
     settings(rt)
 }

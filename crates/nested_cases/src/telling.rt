@@ -8,7 +8,7 @@ use std::fmt::Display;
 use std::io;
 use vetoes::veto::{Verdict, Veto};
 
-pub fn tell<D: Display + Drop>(
+pub(crate) fn tell<D: Display + Drop>(
     rt: &HostRuntime,
     what: D,
     answer: Result<(), Refusal>,
@@ -19,7 +19,7 @@ pub fn tell<D: Display + Drop>(
     }
 }
 
-pub fn examine_into<V: Veto>(
+pub(crate) fn examine_into<V: Veto>(
     rt: &HostRuntime,
     veto: &mut V,
     assignment: &[u8],
@@ -36,7 +36,7 @@ pub fn examine_into<V: Veto>(
 }
 
 // The reach, and the verdict at each assignment. The ticks hold 7 before the call, so that what stays can be seen.
-pub fn examine_all<V: Veto, const N: usize>(
+pub(crate) fn examine_all<V: Veto, const N: usize>(
     rt: &HostRuntime,
     veto: &mut V,
     assignments: &[[u8; N]],
@@ -49,7 +49,7 @@ pub fn examine_all<V: Veto, const N: usize>(
 }
 
 // Whatever the session hands out from where it stands, at most eight assignments.
-pub fn list<V: Veto>(rt: &HostRuntime, session: &mut Session<V>) -> io::Result<()> {
+pub(crate) fn list<V: Veto>(rt: &HostRuntime, session: &mut Session<V>) -> io::Result<()> {
     for _ in 0..8 {
         let mut out = [7; 4];
         match session.next(&mut out) {
@@ -61,7 +61,7 @@ pub fn list<V: Veto>(rt: &HostRuntime, session: &mut Session<V>) -> io::Result<(
     Ok(())
 }
 
-pub fn ask<V: Veto>(
+pub(crate) fn ask<V: Veto>(
     rt: &HostRuntime,
     session: &mut Session<V>,
     assumed: &[Literal],

@@ -16,14 +16,14 @@ b n 200\n1 3 0\n-2 0\nb m 200\n3 0\n1 0\nb l 200\n1 2 3 0\nb d 200\n2 300 0\nb w
 const EMPTY: &[u8] = b"p nest 1 1\nt o 0 0 0\nb o 1\n";
 
 #[derive(Drop)]
-pub struct Reader {
+pub(crate) struct Reader {
     heap: Global,
     problem: Problem,
     buffer: Vec<u8>,
 }
 
 impl Reader {
-    pub fn new(heap: Global) -> Result<Reader, AllocError> {
+    pub(crate) fn new(heap: Global) -> Result<Reader, AllocError> {
         Ok(Reader {
             heap,
             problem: Problem::empty(),
@@ -40,7 +40,7 @@ impl Reader {
     }
 
     // Whether the text is answered so, a refusal leaving the empty problem.
-    pub fn is_answered(&mut self, text: &[u8], answer: &[u8]) -> Result<bool, AllocError> {
+    pub(crate) fn is_answered(&mut self, text: &[u8], answer: &[u8]) -> Result<bool, AllocError> {
         if read(FULL, &mut self.problem).is_err() || self.written() != FULL {
             return Ok(false);
         }

@@ -25,7 +25,7 @@ fn add(text: &mut Vec<u8>, heap: Global, line: &str) -> anyhow::Result<()> {
     Ok(())
 }
 
-pub fn joined(heap: Global, pieces: &str) -> anyhow::Result<Vec<u8>> {
+pub(crate) fn joined(heap: Global, pieces: &str) -> anyhow::Result<Vec<u8>> {
     let mut text = Vec::new(heap);
     for line in pieces.lines() {
         add(&mut text, heap, line)?;

@@ -8,7 +8,7 @@ use std::alloc::{AllocError, Global};
 
 // What the vetoes at the bottom are lent. Their atoms lie up to a random one, at most 5.
 #[derive(Drop)]
-pub struct Lists {
+pub(crate) struct Lists {
     pub arcs: Vec<Arc>,
     pub currents: Vec<Row<Milliamperes>>,
     pub lines: Vec<Row<Lines>>,
@@ -41,7 +41,7 @@ fn line(random: &mut Random, top: u8) -> Row<Lines> {
 }
 
 impl Lists {
-    pub fn draw(heap: Global, random: &mut Random) -> Result<Lists, AllocError> {
+    pub(crate) fn draw(heap: Global, random: &mut Random) -> Result<Lists, AllocError> {
         let mut lists = Lists {
             arcs: Vec::new(heap),
             currents: Vec::new(heap),
@@ -70,7 +70,7 @@ impl Lists {
 }
 
 // So many mapped atoms of a host; two may be the same.
-pub fn map(
+pub(crate) fn map(
     heap: Global,
     random: &mut Random,
     count: u8,
@@ -80,7 +80,11 @@ pub fn map(
 }
 
 // At most three literals over so many atoms.
-pub fn clause(heap: Global, random: &mut Random, atoms: u8) -> Result<Vec<Literal>, AllocError> {
+pub(crate) fn clause(
+    heap: Global,
+    random: &mut Random,
+    atoms: u8,
+) -> Result<Vec<Literal>, AllocError> {
     let count = if random.one_in(24) {
         0
     } else {
@@ -106,6 +110,6 @@ fn byte(random: &mut Random) -> u8 {
     }
 }
 
-pub fn bytes(heap: Global, random: &mut Random, count: u8) -> Result<Vec<u8>, AllocError> {
+pub(crate) fn bytes(heap: Global, random: &mut Random, count: u8) -> Result<Vec<u8>, AllocError> {
     (0..count).map(|_| byte(random)).collect(heap)
 }

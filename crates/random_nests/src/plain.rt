@@ -3,9 +3,9 @@ use assignments::{AtomNumber, Literal};
 use vetoes::veto::{Verdict, Veto};
 
 // No nest here has more atoms.
-pub const MOST: usize = 12;
+pub(crate) const MOST: usize = 12;
 
-pub trait Plain {
+pub(crate) trait Plain {
     fn reach(&self) -> usize;
 
     fn speaks(&mut self, assignment: &[u8]) -> bool;
@@ -13,12 +13,12 @@ pub trait Plain {
 
 // At the bottom stands a veto itself: what these mean is compared with their definitions by lists of calls.
 #[derive(Drop)]
-pub struct Asked<V> {
+pub(crate) struct Asked<V> {
     veto: V,
 }
 
 impl<V> Asked<V> {
-    pub fn new(veto: V) -> Asked<V> {
+    pub(crate) fn new(veto: V) -> Asked<V> {
         Asked { veto }
     }
 }
@@ -53,7 +53,7 @@ fn meets(assignment: &[u8], clause: &[Literal]) -> bool {
 
 // A nest with its map and its clauses, over what is below.
 #[derive(Drop)]
-pub struct PlainNest<P> {
+pub(crate) struct PlainNest<P> {
     pub below: P,
     pub map: Vec<AtomNumber>,
     pub own: u8,

@@ -4,7 +4,7 @@ use std::fmt;
 use vetoes::veto::Verdict;
 
 #[derive(Drop)]
-pub struct Tally {
+pub(crate) struct Tally {
     nests: u32,
     speaks: u32,
     silent: u32,
@@ -17,7 +17,7 @@ fn one_more(number: &mut u32) {
 }
 
 impl Tally {
-    pub fn new() -> Tally {
+    pub(crate) fn new() -> Tally {
         Tally {
             nests: 0,
             speaks: 0,
@@ -28,14 +28,14 @@ impl Tally {
     }
 
     // A nest whose shape and reach are right or not.
-    pub fn add_nest(&mut self, right: bool) {
+    pub(crate) fn add_nest(&mut self, right: bool) {
         one_more(&mut self.nests);
         if !right {
             one_more(&mut self.mismatches);
         }
     }
 
-    pub fn add_answer(&mut self, answer: Result<Verdict, Refusal>, right: bool) {
+    pub(crate) fn add_answer(&mut self, answer: Result<Verdict, Refusal>, right: bool) {
         match answer {
             Ok(Verdict::Speaks) => one_more(&mut self.speaks),
             Ok(Verdict::Silent) => one_more(&mut self.silent),
@@ -46,7 +46,7 @@ impl Tally {
         }
     }
 
-    pub fn mismatches(&self) -> u32 {
+    pub(crate) fn mismatches(&self) -> u32 {
         self.mismatches
     }
 }

@@ -48,7 +48,7 @@ fn describe<V: Veto, P>(
 
 // A nest over both, unshaped at times, else with a random map into so many host atoms and random clauses. Answers none where the
 // nest refuses what it should not.
-pub fn nest<V: Veto + Drop, P: Plain + Drop>(
+pub(crate) fn nest<V: Veto + Drop, P: Plain + Drop>(
     heap: Global,
     random: &mut Random,
     veto: V,
@@ -140,7 +140,7 @@ fn compare<V: Veto, P: Plain>(
 }
 
 // Asks at random assignments, partial ones too, of up to three atoms more than the host has.
-pub fn ask<V: Veto, P: Plain>(
+pub(crate) fn ask<V: Veto, P: Plain>(
     heap: Global,
     random: &mut Random,
     nest: &mut V,

@@ -1,4 +1,4 @@
-// A session over one veto: its seven calls, and any list of them on a fresh session.
+// A session over one veto, and its seven calls.
 #![tactic(auto)]
 
 pub mod handing;

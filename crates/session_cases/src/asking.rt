@@ -43,7 +43,7 @@ const OVER_A_CYCLE: &[Call] = &[
     Call::Ask(&[3, 2], 4, 4),
 ];
 
-pub fn asking(rt: &HostRuntime) -> io::Result<()> {
+pub(crate) fn asking(rt: &HostRuntime) -> io::Result<()> {
     let cycle = Cycle::new(&BOTH_WAYS[..]);
     play(rt, "equal assumptions", Mute, EQUAL_ASSUMPTIONS)?;
     play(rt, "an empty problem", Mute, EMPTY_PROBLEM)?;

@@ -10,7 +10,7 @@ use vetoes::veto::Veto;
 
 // A buffer holds 7 in each byte before the call, so that what stays can be seen.
 #[derive(Clone, Copy)]
-pub enum Call<'a> {
+pub(crate) enum Call<'a> {
     Size(usize),
     Clause(&'a [Literal]),
     // the same call so many times, told by the text and answered with the first refusal
@@ -30,7 +30,7 @@ pub enum Call<'a> {
 const MOST: usize = 5;
 
 // An arc by atom 1 and one back by atom 2.
-pub const BOTH_WAYS: [Arc; 2] = [
+pub(crate) const BOTH_WAYS: [Arc; 2] = [
     Arc {
         atom: 1,
         from: 1,
@@ -151,7 +151,7 @@ fn play_call<V: Veto>(rt: &HostRuntime, session: &mut Session<V>, call: Call) ->
 }
 
 // The calls of one case on a fresh session.
-pub fn play<V: Veto + Drop>(
+pub(crate) fn play<V: Veto + Drop>(
     rt: &HostRuntime,
     what: &str,
     veto: V,

@@ -54,7 +54,7 @@ const CLAUSE_IN_A_SCOPE: &[Call] = &[
     Call::Next(4),
 ];
 
-pub fn listing(rt: &HostRuntime) -> io::Result<()> {
+pub(crate) fn listing(rt: &HostRuntime) -> io::Result<()> {
     play(rt, "no atom", Mute, NO_ATOM)?;
     play(rt, "one of two atoms", Mute, TWO_ATOMS)?;
     play(rt, "a clause after the first", Mute, CLAUSE_BETWEEN)?;

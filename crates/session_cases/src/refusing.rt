@@ -108,7 +108,7 @@ const SCOPES: &[Call] = &[
     Call::Opens("sixteen times open", 16),
 ];
 
-pub fn refusing(rt: &HostRuntime) -> io::Result<()> {
+pub(crate) fn refusing(rt: &HostRuntime) -> io::Result<()> {
     let cycle = Cycle::new(&BOTH_WAYS[..]);
     play(rt, "a fresh session", Mute, NO_SIZE)?;
     play(rt, "three atoms", Mute, SHORT_BUFFERS)?;

@@ -43,7 +43,7 @@ fn order(heap: Global) -> Result<Vec<Turn>, AllocError> {
 }
 
 // The order as it was played.
-pub fn play_order(heap: Global) -> Result<Vec<Turn>, AllocError> {
+pub(crate) fn play_order(heap: Global) -> Result<Vec<Turn>, AllocError> {
     let arcs = [arc(1, 1, 2), arc(3, 2, 1)];
     let rows = [row(0, 380), row(1, 300), row(2, 250), row(3, 100)];
     let veto = Pair::new(Cycle::new(&arcs[..]), Load::new(&rows[..]));

@@ -11,7 +11,7 @@ use vetoes::veto::{Verdict, Veto};
 
 // The carriage runs into its stop where the raw output is on and the brake is off, while it stands at its turn. The stall sees the raw
 // output and the brake as its atoms 1 and 2; its atom 3, the carriage at its turn, is its own.
-pub fn describe() -> Result<Nested<Mute>, Refusal> {
+pub(crate) fn describe() -> Result<Nested<Mute>, Refusal> {
     let mut stall = Nested::new(Mute);
     stall.shape(&[1, 3], 1)?;
     stall.add(&[1])?;
@@ -21,7 +21,7 @@ pub fn describe() -> Result<Nested<Mute>, Refusal> {
 }
 
 // Whether the setting is ruled out, and the atoms for which it is.
-pub fn tell_stall(
+pub(crate) fn tell_stall(
     rt: &HostRuntime,
     stall: &mut Nested<Mute>,
     setting: &[u8; ATOMS],
@@ -59,7 +59,7 @@ fn order(heap: Global) -> Result<Vec<Turn>, AllocError> {
 }
 
 // The order as it was played.
-pub fn play_order(heap: Global, stall: Nested<Mute>) -> Result<Vec<Turn>, AllocError> {
+pub(crate) fn play_order(heap: Global, stall: Nested<Mute>) -> Result<Vec<Turn>, AllocError> {
     let mut turns = order(heap)?;
     play(stall, &mut turns);
     Ok(turns)

@@ -49,7 +49,7 @@ fn tell_core(rt: &HostRuntime, call: &Call) -> io::Result<()> {
     println!(rt; "")
 }
 
-pub fn tell(rt: &HostRuntime, turn: &Turn) -> io::Result<()> {
+pub(crate) fn tell(rt: &HostRuntime, turn: &Turn) -> io::Result<()> {
     tell_call(rt, &turn.call)?;
     match turn.reply {
         Ok(Done::Accepted) => println!(rt; ": accepted"),
