@@ -46,10 +46,12 @@ impl Reader {
         }
         match read(text, &mut self.problem) {
             Ok(()) => Ok(self.written() == answer),
-            Err(fault) => {
-                let line = format!(in self.heap; "{}\n", FaultLine(fault))?;
-                Ok(line.as_bytes() == answer && self.written() == EMPTY)
-            }
+            Err(fault) => self.is_told(FaultLine(fault), answer),
         }
+    }
+
+    fn is_told(&mut self, fault: FaultLine, answer: &[u8]) -> Result<bool, AllocError> {
+        let line = format!(in self.heap; "{fault}\n")?;
+        Ok(line.as_bytes() == answer && self.written() == EMPTY)
     }
 }

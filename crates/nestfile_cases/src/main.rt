@@ -50,7 +50,13 @@ impl Form {
         }
     }
 
-    fn load(self, rt: &HostRuntime, path: &str) -> anyhow::Result<Vec<u8>> {
+    // The file of this path and suffix.
+    fn load(self, rt: &HostRuntime, path: &str, suffix: &str) -> anyhow::Result<Vec<u8>> {
+        let path = format!(in rt.alloc(); "{path}{suffix}")?;
+        self.load_file(rt, path.as_str())
+    }
+
+    fn load_file(self, rt: &HostRuntime, path: &str) -> anyhow::Result<Vec<u8>> {
         match self {
             Form::Stored => Ok(fs::read(rt, path)?),
             Form::Pieces => joined(rt.alloc(), fs::read_to_string(rt, path)?.as_str()),
@@ -76,10 +82,24 @@ impl Tally {
 
 // Whether the text of this path without its suffix is answered as is said beside it.
 fn agrees(rt: &HostRuntime, reader: &mut Reader, form: Form, path: &str) -> anyhow::Result<bool> {
-    let suffix = form.suffix();
-    let text = form.load(rt, format!(in rt.alloc(); "{path}{suffix}")?.as_str())?;
-    let answer = form.load(rt, format!(in rt.alloc(); "{path}.answer")?.as_str())?;
+    let text = form.load(rt, path, form.suffix())?;
+    let answer = form.load(rt, path, ".answer")?;
     Ok(reader.is_answered(text.as_slice(), answer.as_slice())?)
+}
+
+fn read_text(
+    rt: &HostRuntime,
+    reader: &mut Reader,
+    form: Form,
+    folder: &str,
+    name: &str,
+) -> anyhow::Result<bool> {
+    let path = format!(in rt.alloc(); "{folder}/{name}")?;
+    let agrees = agrees(rt, reader, form, path.as_str())?;
+    if !agrees {
+        println!(rt; "{name} is answered otherwise")?;
+    }
+    Ok(agrees)
 }
 
 fn read_folder(
@@ -95,26 +115,31 @@ fn read_folder(
     for entry in fs::read_dir(rt, path)? {
         let entry = entry?;
         if let Some(name) = entry.file_name().strip_suffix(folder.form.suffix()) {
-            let path = format!(in rt.alloc(); "{path}/{name}")?;
-            let agrees = agrees(rt, reader, folder.form, path.as_str())?;
-            tally.add(agrees);
-            if !agrees {
-                println!(rt; "{name} is answered otherwise")?;
-            }
+            tally.add(read_text(rt, reader, folder.form, path, name)?);
         }
     }
     Ok(tally)
+}
+
+// Answers how many texts are answered otherwise.
+fn tell_folder(
+    rt: &HostRuntime,
+    reader: &mut Reader,
+    folder: Folder,
+    root: &str,
+) -> anyhow::Result<u32> {
+    let name = folder.name;
+    let path = format!(in rt.alloc(); "{root}/{name}")?;
+    let Tally { agree, differ } = read_folder(rt, reader, folder, path.as_str())?;
+    println!(rt; "{name}: {agree} answered as they are to be, {differ} otherwise")?;
+    Ok(differ)
 }
 
 fn read_all(rt: &HostRuntime, root: &str) -> anyhow::Result<()> {
     let mut reader = Reader::new(rt.alloc())?;
     let mut all: u32 = 0;
     for folder in FOLDERS {
-        let name = folder.name;
-        let path = format!(in rt.alloc(); "{root}/{name}")?;
-        let Tally { agree, differ } = read_folder(rt, &mut reader, folder, path.as_str())?;
-        println!(rt; "{name}: {agree} answered as they are to be, {differ} otherwise")?;
-        all = all.saturating_add(differ);
+        all = all.saturating_add(tell_folder(rt, &mut reader, folder, root)?);
     }
     if all > 0 {
         return Err(anyhow!("{all} texts are answered otherwise"));
