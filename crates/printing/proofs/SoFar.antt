@@ -59,13 +59,13 @@ all_printed m o p old new k ls h q =
     let whole : h.done ≡ ls = sym (append-nil h.done) ∙ (ap (λ z. h.done ++ z) (sym q) ∙ h.joined) in
     subst (λ z. Appends old new (lines_text z)) whole h.printed
 
+none_of : (k : ℕ) (xs : List Said) → k ≡ 0 → length xs ≤ k → xs ≡ []
+none_of k [] z f = refl
+none_of k (x ∷ xs) z f = absurd (omega arith)
+
 -- no turn is left
 pub at_limit : (m : Meaning) (o : Option SessionTable) (p : Progress) (old new : Option (List ℕ)) (k : ℕ) (ls : List Said) → k ≡ 0 → SoFar m o p old new k ls → Appends old new (lines_text ls)
-at_limit m o p old new k ls z h = all_printed m o p old new k ls h (none_of h.rest h.few)
-  where
-    none_of : (xs : List Said) → length xs ≤ k → xs ≡ []
-    none_of [] f = refl
-    none_of (x ∷ xs) f = absurd (omega arith)
+at_limit m o p old new k ls z h = all_printed m o p old new k ls h (none_of k h.rest z h.few)
 
 none_first : (xs : List Said) → None ≡ slice_get xs 0 → xs ≡ []
 none_first [] h = refl
@@ -74,6 +74,18 @@ none_first (x ∷ xs) h = cc
 -- no line is given
 pub at_end : (m : Meaning) (o o' : Option SessionTable) (p p' : Progress) (old new : Option (List ℕ)) (k : ℕ) (ls : List Said) → Gives m o o' p p' None → SoFar m o p old new k ls → Appends old new (lines_text ls)
 at_end m o o' p p' old new k ls g h = all_printed m o p old new k ls h (none_first h.rest (g.step h.rest h.lists).0)
+
+-- then no line is left
+left_none : (m : Meaning) (o : Option SessionTable) (p : Progress) (xs : List Said) → xs ≡ [] → Lists m o p xs → Lists m o p []
+left_none m o p xs e w = subst (Lists m o p) e w
+
+pub ended_at_limit : (m : Meaning) (o : Option SessionTable) (p : Progress) (old new : Option (List ℕ)) (k : ℕ) (ls : List Said) → k ≡ 0 → SoFar m o p old new k ls → Lists m o p []
+ended_at_limit m o p old new k ls z h = left_none m o p h.rest (none_of k h.rest z h.few) h.lists
+
+pub ended_at_end : (m : Meaning) (o o' : Option SessionTable) (p p' : Progress) (old new : Option (List ℕ)) (k : ℕ) (ls : List Said) → Gives m o o' p p' None → SoFar m o p old new k ls → Lists m o' p' []
+ended_at_end m o o' p p' old new k ls g h =
+    let s = g.step h.rest h.lists in
+    left_none m o' p' (drop 1 h.rest) (ap (drop 1) (none_first h.rest s.0)) s.1
 
 line_more : (done : List Said) (l : Said) → lines_text done ++ line (text l) ≡ lines_text (done ++ l ∷ [])
 line_more done l = ap (λ z. lines_text done ++ z) (sym (append-nil (line (text l)))) ∙ sym (flat_map-append (λ x. line (text x)) done (l ∷ []))

@@ -1,7 +1,7 @@
 // What is printed of a nest file: the lines of its listing, or the line of its fault. It goes to any writer.
 #![tactic(auto)]
 
-ghost use Rattle.std.specs.Prelude.{◌≡◌, List, ℕ, IfOk, OnOk};
+ghost use Rattle.std.specs.Prelude.{◌≡◌, List, [], ℕ, IfOk, OnOk};
 ghost use Rattle.std.specs.Io.KnownBytes.{Appends};
 ghost use Rattle.nestformat.specs.Reading.{reading};
 ghost use Rattle.nestfile.specs.Problems.{told};
@@ -35,6 +35,7 @@ pub enum Printed {
 // Writes the lines that are left of a listing, each as soon as it is known.
 pub fn print_listing<V: Veto, W: Write>(listing: &mut Listing<V>, out: &mut W) -> io::Result<()>
     ensures bytes { (ls : List Said) → Lists (V.Veto.means listing.old.session.veto) listing.old.session.table listing.old.progress ls → OnOk result (Appends (W.contents out.old) (W.contents out.new) (lines_text ls)) }
+    ensures ended { (ls : List Said) → Lists (V.Veto.means listing.old.session.veto) listing.old.session.table listing.old.progress ls → OnOk result (Lists (V.Veto.means listing.old.session.veto) listing.new.session.table listing.new.progress []) }
     ensures meaning { V.Veto.means listing.new.session.veto ≡ V.Veto.means listing.old.session.veto }
 {
     for _turn in 0..LINE_LIMIT {
