@@ -140,26 +140,34 @@ fn scopes(rt: &HostRuntime) -> anyhow::Result<()> {
     Ok(())
 }
 
+fn read_text(text: &[u8]) -> Result<(), Refusal> {
+    let mut problem = Problem::empty();
+    read(text, &mut problem).map_err(|fault| fault.refusal)
+}
+
 // Reads a small file, filled up to so many bytes by blank lines.
 fn text(rt: &HostRuntime, bytes: usize) -> anyhow::Result<()> {
     let mut text = Vec::new(rt.alloc());
     text.extend_from_slice(SMALL)?;
     text.resize(bytes, b'\n')?;
-    let mut problem = Problem::empty();
-    let answer = read(text.as_slice(), &mut problem).map_err(|fault| fault.refusal);
+    let answer = read_text(text.as_slice());
     tell(rt, format_args!("text of {bytes} bytes"), answer)?;
     Ok(())
 }
 
-fn main(rt: HostRuntime) -> anyhow::Result<()> {
+fn books(rt: &HostRuntime) -> anyhow::Result<()> {
     for atoms in [0, 200, 201] {
-        tell_fresh(&rt, atoms)?;
+        tell_fresh(rt, atoms)?;
     }
-    play(&rt, 200, LITERALS)?;
-    play(&rt, 2, EMPTY_CLAUSE)?;
-    play(&rt, 2, CLAUSE_TABLE)?;
-    play(&rt, 2, LITERAL_TABLE)?;
-    play(&rt, 2, CUT_BACK)?;
+    play(rt, 200, LITERALS)?;
+    play(rt, 2, EMPTY_CLAUSE)?;
+    play(rt, 2, CLAUSE_TABLE)?;
+    play(rt, 2, LITERAL_TABLE)?;
+    play(rt, 2, CUT_BACK)
+}
+
+fn main(rt: HostRuntime) -> anyhow::Result<()> {
+    books(&rt)?;
     scopes(&rt)?;
     for bytes in [60_000, 60_001] {
         text(&rt, bytes)?;

@@ -3,7 +3,6 @@ use assignments::Literal;
 use random::Random;
 use runs::turn::Call;
 use std::alloc::{AllocError, Global};
-use std::fmt;
 
 // Which calls a list has most of.
 #[derive(Clone, Copy)]
@@ -28,15 +27,8 @@ pub enum Name {
     Ask,
 }
 
-pub const NAMES: [Name; 7] = [
-    Name::Size,
-    Name::Clause,
-    Name::Open,
-    Name::Close,
-    Name::Rewind,
-    Name::Next,
-    Name::Ask,
-];
+// In the order of the calls.
+pub const NAMES: [&str; 7] = ["size", "clause", "open", "close", "rewind", "next", "ask"];
 
 impl Name {
     pub fn of(call: &Call) -> Name {
@@ -48,20 +40,6 @@ impl Name {
             Call::Rewind => Name::Rewind,
             Call::Next(_) => Name::Next,
             Call::Ask(_, _, _) => Name::Ask,
-        }
-    }
-}
-
-impl fmt::Display for Name {
-    fn fmt<W: fmt::Write>(&self, f: &mut fmt::Formatter<W>) -> fmt::Result {
-        match self {
-            Name::Size => write!(f, "size"),
-            Name::Clause => write!(f, "clause"),
-            Name::Open => write!(f, "open"),
-            Name::Close => write!(f, "close"),
-            Name::Rewind => write!(f, "rewind"),
-            Name::Next => write!(f, "next"),
-            Name::Ask => write!(f, "ask"),
         }
     }
 }
@@ -207,7 +185,9 @@ impl Calls {
             literals.push(self.out_of_range())?;
         }
         if self.atoms > 0 {
-            literals.extend((0..count).map(|_| self.literal()))?;
+            for _ in 0..count {
+                literals.push(self.literal())?;
+            }
         }
         Ok(literals)
     }
@@ -248,9 +228,11 @@ impl Calls {
             3 => needed.saturating_add(self.random.below(5)),
             _ => needed,
         };
-        (0..count)
-            .map(|_| byte(&mut self.random))
-            .collect(self.heap)
+        let mut buffer = Vec::new(self.heap);
+        for _ in 0..count {
+            buffer.push(byte(&mut self.random))?;
+        }
+        Ok(buffer)
     }
 
     fn question(&mut self) -> Result<Call, AllocError> {

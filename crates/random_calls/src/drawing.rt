@@ -18,13 +18,14 @@ pub enum Kind {
 
 impl fmt::Display for Kind {
     fn fmt<W: fmt::Write>(&self, f: &mut fmt::Formatter<W>) -> fmt::Result {
-        match self {
-            Kind::Mute => write!(f, "mute"),
-            Kind::Cycle => write!(f, "cycle"),
-            Kind::Current => write!(f, "load of milliamperes"),
-            Kind::Lines => write!(f, "load of lines"),
-            Kind::CycleAndCurrent => write!(f, "pair of cycle and load"),
-        }
+        let name = match self {
+            Kind::Mute => "mute",
+            Kind::Cycle => "cycle",
+            Kind::Current => "load of milliamperes",
+            Kind::Lines => "load of lines",
+            Kind::CycleAndCurrent => "pair of cycle and load",
+        };
+        write!(f, "{name}")
     }
 }
 
@@ -81,21 +82,44 @@ fn lines(random: &mut Random, top: u8) -> Row<Lines> {
     }
 }
 
+fn add_arcs(random: &mut Random, top: u8, rules: &mut Rules) -> Result<(), AllocError> {
+    for _ in 0..random.below(9) {
+        rules.arcs.push(arc(random, top))?;
+    }
+    Ok(())
+}
+
+fn add_currents(random: &mut Random, top: u8, rules: &mut Rules) -> Result<(), AllocError> {
+    for _ in 0..random.below(8) {
+        rules.currents.push(current(random, top))?;
+    }
+    Ok(())
+}
+
+fn add_lines(random: &mut Random, top: u8, rules: &mut Rules) -> Result<(), AllocError> {
+    for _ in 0..random.below(8) {
+        rules.lines.push(lines(random, top))?;
+    }
+    Ok(())
+}
+
 // The atoms lie at most at a random top, so that the reach differs from list to list.
-pub fn rules(heap: Global, random: &mut Random, kind: Kind) -> Result<Rules, AllocError> {
+fn add(random: &mut Random, kind: Kind, rules: &mut Rules) -> Result<(), AllocError> {
     let top = random.below(6).saturating_add(1);
+    match kind {
+        Kind::Mute => Ok(()),
+        Kind::Cycle => add_arcs(random, top, rules),
+        Kind::Current => add_currents(random, top, rules),
+        Kind::Lines => add_lines(random, top, rules),
+        Kind::CycleAndCurrent => {
+            add_arcs(random, top, rules)?;
+            add_currents(random, top, rules)
+        }
+    }
+}
+
+pub fn rules(heap: Global, random: &mut Random, kind: Kind) -> Result<Rules, AllocError> {
     let mut rules = Rules::none(heap);
-    if matches!(kind, Kind::Cycle | Kind::CycleAndCurrent) {
-        let arcs = 0..random.below(9);
-        rules.arcs = arcs.map(|_| arc(random, top)).collect(heap)?;
-    }
-    if matches!(kind, Kind::Current | Kind::CycleAndCurrent) {
-        let rows = 0..random.below(8);
-        rules.currents = rows.map(|_| current(random, top)).collect(heap)?;
-    }
-    if matches!(kind, Kind::Lines) {
-        let rows = 0..random.below(8);
-        rules.lines = rows.map(|_| lines(random, top)).collect(heap)?;
-    }
+    add(random, kind, &mut rules)?;
     Ok(rules)
 }

@@ -27,13 +27,14 @@ pub const NEST_KINDS: [NestKind; 5] = [
 
 impl fmt::Display for NestKind {
     fn fmt<W: fmt::Write>(&self, f: &mut fmt::Formatter<W>) -> fmt::Result {
-        match self {
-            NestKind::OverMute => write!(f, "nest over mute"),
-            NestKind::OverCycle => write!(f, "nest over cycle"),
-            NestKind::OverCurrent => write!(f, "nest over load of milliamperes"),
-            NestKind::OverNest => write!(f, "nest over a nest over cycle"),
-            NestKind::BesideLines => write!(f, "pair of load of lines and nest over cycle"),
-        }
+        let name = match self {
+            NestKind::OverMute => "nest over mute",
+            NestKind::OverCycle => "nest over cycle",
+            NestKind::OverCurrent => "nest over load of milliamperes",
+            NestKind::OverNest => "nest over a nest over cycle",
+            NestKind::BesideLines => "pair of load of lines and nest over cycle",
+        };
+        write!(f, "{name}")
     }
 }
 
@@ -44,7 +45,20 @@ fn number(random: &mut Random, most: u8) -> u8 {
 // So many mapped atoms up to a random one, at most 5; two may be the same.
 fn map(heap: Global, random: &mut Random, count: u8) -> Result<Vec<AtomNumber>, AllocError> {
     let top = number(random, 5);
-    (0..count).map(|_| number(random, top)).collect(heap)
+    let mut map = Vec::new(heap);
+    for _ in 0..count {
+        map.push(number(random, top))?;
+    }
+    Ok(map)
+}
+
+fn literal(random: &mut Random, atoms: u8) -> Literal {
+    let atom = i16::from(number(random, atoms));
+    if random.one_in(2) {
+        atom.wrapping_neg()
+    } else {
+        atom
+    }
 }
 
 // At most three literals over so many atoms.
@@ -54,15 +68,11 @@ fn clause(heap: Global, random: &mut Random, atoms: u8) -> Result<Vec<Literal>, 
     } else {
         number(random, 3)
     };
-    let drawn = (0..count).map(|_| {
-        let atom = i16::from(number(random, atoms));
-        if random.one_in(2) {
-            atom.wrapping_neg()
-        } else {
-            atom
-        }
-    });
-    drawn.collect(heap)
+    let mut clause = Vec::new(heap);
+    for _ in 0..count {
+        clause.push(literal(random, atoms))?;
+    }
+    Ok(clause)
 }
 
 // A plan for a nest over what has such a reach; at times none, so that the nest stays unshaped.

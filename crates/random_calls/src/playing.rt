@@ -37,6 +37,21 @@ impl Buffers {
         }
         Ok(buffers)
     }
+
+    // Whether the buffers hold the same now.
+    fn stay(&self, out: &[u8], ticks: &[u8]) -> bool {
+        out == self.out.as_slice() && ticks == self.ticks.as_slice()
+    }
+
+    // Whether only the front was written.
+    fn take_front(&self, front: &[u8], out: &[u8], ticks: &[u8]) -> bool {
+        is_written(front, self.out.as_slice(), out) && ticks == self.ticks.as_slice()
+    }
+
+    // Whether only the ticks of so many assumptions were written.
+    fn take_ticks(&self, count: usize, out: &[u8], ticks: &[u8]) -> bool {
+        out == self.out.as_slice() && are_ticks(count, self.ticks.as_slice(), ticks)
+    }
 }
 
 // Whether a buffer has the front, and behind it what it had before.
@@ -135,20 +150,24 @@ impl<'a, V: Veto, P: Plain> Trial<'a, V, P> {
         before: &Buffers,
         reply: Reply,
     ) -> Result<bool, AllocError> {
-        let old_out = before.out.as_slice();
-        let old_ticks = before.ticks.as_slice();
-        match self.model.ask(assumed, old_out.len(), old_ticks.len()) {
+        match self
+            .model
+            .ask(assumed, before.out.len(), before.ticks.len())
+        {
             Ok(Some(bytes)) => {
-                let written = is_written(bytes, old_out, out);
-                Ok(reply == Ok(Done::Chosen) && written && ticks == old_ticks)
+                Ok(reply == Ok(Done::Chosen) && before.take_front(bytes, out, ticks))
             }
             Ok(None) => {
-                let told = out == old_out && are_ticks(assumed.len(), old_ticks, ticks);
-                let core = ticked(self.heap, assumed, ticks)?;
-                Ok(reply == Ok(Done::Clash) && told && self.is_core(core.as_slice())?)
+                let told = before.take_ticks(assumed.len(), out, ticks);
+                Ok(reply == Ok(Done::Clash) && told && self.are_ticked_core(assumed, ticks)?)
             }
-            Err(refusal) => Ok(reply == Err(refusal) && out == old_out && ticks == old_ticks),
+            Err(refusal) => Ok(reply == Err(refusal) && before.stay(out, ticks)),
         }
+    }
+
+    fn are_ticked_core(&self, assumed: &[Literal], ticks: &[u8]) -> Result<bool, AllocError> {
+        let core = ticked(self.heap, assumed, ticks)?;
+        self.is_core(core.as_slice())
     }
 
     // No admitted assignment includes all literals, and for each of these one includes the others.

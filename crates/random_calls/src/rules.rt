@@ -96,6 +96,27 @@ fn are_too_many(rows: &[Row<Lines>], assignment: &[u8]) -> bool {
     used.count() > allowed.count()
 }
 
+fn arcs_reach(arcs: &[Arc]) -> u8 {
+    let mut reach = 0;
+    for arc in arcs {
+        if counts(arc) {
+            reach = arc.atom.max(reach);
+        }
+    }
+    reach
+}
+
+// The first row of a load is its limit, and its atom does not count.
+fn rows_reach<L>(rows: &[Row<L>]) -> u8 {
+    let mut reach = 0;
+    for row in rows.iter().skip(1) {
+        if in_range(row.atom, ATOMS) {
+            reach = row.atom.max(reach);
+        }
+    }
+    reach
+}
+
 impl Rules {
     pub fn none(heap: Global) -> Rules {
         Rules {
@@ -116,15 +137,10 @@ impl Plain for Rules {
         close_a_chain(heap, arcs_at(heap, self.arcs.as_slice(), assignment)?)
     }
 
-    // The highest atom that counts. The first row of a load is its limit, and its atom does not count.
+    // The highest atom that counts.
     fn reach(&self) -> u8 {
-        let arcs = self.arcs.iter().filter(|arc| counts(arc));
-        let currents = self.currents.iter().skip(1).map(|row| row.atom);
-        let lines = self.lines.iter().skip(1).map(|row| row.atom);
-        let atoms = arcs.map(|arc| arc.atom).chain(currents).chain(lines);
-        atoms
-            .filter(|atom| in_range(*atom, ATOMS))
-            .max()
-            .unwrap_or(0)
+        let arcs = arcs_reach(self.arcs.as_slice());
+        let currents = rows_reach(self.currents.as_slice());
+        arcs.max(currents).max(rows_reach(self.lines.as_slice()))
     }
 }

@@ -20,29 +20,16 @@ enum Answer {
     ClashOfMore,
 }
 
-const ANSWERS: [Answer; 7] = [
-    Answer::Accepted,
-    Answer::HandedOut,
-    Answer::NoMore,
-    Answer::Chosen,
-    Answer::ClashOfNone,
-    Answer::ClashOfOne,
-    Answer::ClashOfMore,
+// In the order of the answers.
+const ANSWERS: [&str; 7] = [
+    "accepted",
+    "handed out",
+    "no more",
+    "chosen",
+    "clash with a core of none",
+    "of one",
+    "of more",
 ];
-
-impl fmt::Display for Answer {
-    fn fmt<W: fmt::Write>(&self, f: &mut fmt::Formatter<W>) -> fmt::Result {
-        match self {
-            Answer::Accepted => write!(f, "accepted"),
-            Answer::HandedOut => write!(f, "handed out"),
-            Answer::NoMore => write!(f, "no more"),
-            Answer::Chosen => write!(f, "chosen"),
-            Answer::ClashOfNone => write!(f, "clash with a core of none"),
-            Answer::ClashOfOne => write!(f, "of one"),
-            Answer::ClashOfMore => write!(f, "of more"),
-        }
-    }
-}
 
 // How many ticks the call has.
 fn count_ticks(call: &Call) -> usize {
@@ -117,32 +104,60 @@ impl Tally {
     }
 }
 
-// Each number behind its name.
-fn list<T: fmt::Display, W: fmt::Write>(
-    f: &mut fmt::Formatter<W>,
-    names: &[T],
-    numbers: &[u32],
-) -> fmt::Result {
-    for (place, (name, number)) in names.iter().zip(numbers.iter()).enumerate() {
-        if place > 0 {
-            write!(f, ", ")?;
-        }
-        write!(f, "{name} {number}")?;
+fn sum(numbers: &[u32]) -> u32 {
+    let mut sum: u32 = 0;
+    for number in numbers {
+        sum = sum.saturating_add(*number);
     }
-    Ok(())
+    sum
+}
+
+// Each number behind its name.
+#[derive(Clone, Copy)]
+struct Named<'a> {
+    names: &'a [&'a str],
+    numbers: &'a [u32],
+}
+
+impl fmt::Display for Named<'_> {
+    fn fmt<W: fmt::Write>(&self, f: &mut fmt::Formatter<W>) -> fmt::Result {
+        for (place, (name, number)) in self.names.iter().zip(self.numbers.iter()).enumerate() {
+            let gap = if place > 0 { ", " } else { "" };
+            write!(f, "{gap}{name} {number}")?;
+        }
+        Ok(())
+    }
+}
+
+// The number of each refusal behind it, from the one numbered 1 on.
+#[derive(Clone, Copy)]
+struct Refused<'a>(&'a [u32]);
+
+impl fmt::Display for Refused<'_> {
+    fn fmt<W: fmt::Write>(&self, f: &mut fmt::Formatter<W>) -> fmt::Result {
+        for (number, count) in self.0.iter().enumerate().skip(1) {
+            write!(f, ", refused {number}: {count}")?;
+        }
+        Ok(())
+    }
 }
 
 impl fmt::Display for Tally {
     fn fmt<W: fmt::Write>(&self, f: &mut fmt::Formatter<W>) -> fmt::Result {
-        let calls = self.calls.iter();
-        let all = calls.fold(0, |all: u32, number| all.saturating_add(*number));
-        write!(f, "{all} calls; ")?;
-        list(f, &NAMES, &self.calls)?;
-        write!(f, "; ")?;
-        list(f, &ANSWERS, &self.answers)?;
-        for (number, count) in self.refused.iter().enumerate().skip(1) {
-            write!(f, ", refused {number}: {count}")?;
-        }
-        write!(f, "; mismatches {}", self.mismatches)
+        let all = sum(&self.calls);
+        let calls = Named {
+            names: &NAMES,
+            numbers: &self.calls,
+        };
+        let answers = Named {
+            names: &ANSWERS,
+            numbers: &self.answers,
+        };
+        let refused = Refused(&self.refused);
+        let mismatches = self.mismatches;
+        write!(
+            f,
+            "{all} calls; {calls}; {answers}{refused}; mismatches {mismatches}"
+        )
     }
 }

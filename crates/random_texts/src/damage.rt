@@ -27,15 +27,16 @@ pub const DAMAGES: [Damage; 7] = [
 
 impl fmt::Display for Damage {
     fn fmt<W: fmt::Write>(&self, f: &mut fmt::Formatter<W>) -> fmt::Result {
-        match self {
-            Damage::ByteChanged => write!(f, "byte changed"),
-            Damage::ByteDropped => write!(f, "byte dropped"),
-            Damage::ByteDoubled => write!(f, "byte doubled"),
-            Damage::LineDropped => write!(f, "line dropped"),
-            Damage::LineDoubled => write!(f, "line doubled"),
-            Damage::TokenChanged => write!(f, "token changed"),
-            Damage::CutShort => write!(f, "cut short"),
-        }
+        let name = match self {
+            Damage::ByteChanged => "byte changed",
+            Damage::ByteDropped => "byte dropped",
+            Damage::ByteDoubled => "byte doubled",
+            Damage::LineDropped => "line dropped",
+            Damage::LineDoubled => "line doubled",
+            Damage::TokenChanged => "token changed",
+            Damage::CutShort => "cut short",
+        };
+        write!(f, "{name}")
     }
 }
 

@@ -171,14 +171,19 @@ impl Drawing {
             (_, Mix::LongClauses) => self.random.below(9).saturating_add(38),
             _ => self.random.below(5),
         };
-        let heap = self.heap;
-        (0..count).map(|_| self.literal(atoms)).collect(heap)
+        let mut clause = Vec::new(self.heap);
+        for _ in 0..count {
+            clause.push(self.literal(atoms))?;
+        }
+        Ok(clause)
     }
 
     fn map(&mut self, frame: Frame) -> Result<Vec<i32>, AllocError> {
-        let seen = 0..frame.contents.size;
-        let random = &mut self.random;
-        seen.map(|_| up_to(random, frame.named)).collect(self.heap)
+        let mut map = Vec::new(self.heap);
+        for _ in 0..frame.contents.size {
+            map.push(up_to(&mut self.random, frame.named))?;
+        }
+        Ok(map)
     }
 
     fn row(&mut self, frame: Frame, is_first: bool) -> Result<Vec<i32>, AllocError> {

@@ -3,26 +3,40 @@ use crate::trial::Outcome;
 use refusals::Fault;
 use std::fmt;
 
-// The refusals of texts, from the one numbered 10 on, without a cause.
-const FIRST: u8 = 10;
+// The refusals of texts without a cause, and then the causes.
+const NAMES: [&str; 12] = [
+    "refused 10",
+    "refused 11",
+    "refused 12",
+    "refused 13",
+    "refused 14",
+    "refused 15",
+    "refused 16",
+    "refused 17",
+    "by cause 3",
+    "by cause 5",
+    "by cause 6",
+    "by cause 7",
+];
 
-const PLAIN: usize = 8;
-
-// The causes: 3, 5, 6 and 7.
-const CAUSES: [u8; 4] = [3, 5, 6, 7];
-
-fn count(numbers: &mut [u32], place: usize) {
-    if let Some(number) = numbers.get_mut(place) {
-        *number = number.saturating_add(1);
+// The place of the fault among the names; past them where it has none.
+fn place(fault: Fault) -> usize {
+    let Some(cause) = fault.cause else {
+        return usize::from(fault.refusal.number().saturating_sub(10));
+    };
+    match cause.number() {
+        3 => 8,
+        5 => 9,
+        6 => 10,
+        7 => 11,
+        _ => NAMES.len(),
     }
 }
 
 #[derive(Drop)]
 pub struct Tally {
     accepted: u32,
-    plain: [u32; PLAIN],
-    // by cause
-    caused: [u32; CAUSES.len()],
+    faults: [u32; NAMES.len()],
     mismatches: u32,
 }
 
@@ -30,24 +44,14 @@ impl Tally {
     pub fn new() -> Tally {
         Tally {
             accepted: 0,
-            plain: [0; PLAIN],
-            caused: [0; CAUSES.len()],
+            faults: [0; NAMES.len()],
             mismatches: 0,
         }
     }
 
     fn add_fault(&mut self, fault: Fault) {
-        match fault.cause {
-            None => {
-                let place = fault.refusal.number().saturating_sub(FIRST);
-                count(&mut self.plain, usize::from(place));
-            }
-            Some(cause) => {
-                let mut causes = CAUSES.iter();
-                if let Some(place) = causes.position(|number| *number == cause.number()) {
-                    count(&mut self.caused, place);
-                }
-            }
+        if let Some(number) = self.faults.get_mut(place(fault)) {
+            *number = number.saturating_add(1);
         }
     }
 
@@ -70,11 +74,8 @@ impl fmt::Display for Tally {
     fn fmt<W: fmt::Write>(&self, f: &mut fmt::Formatter<W>) -> fmt::Result {
         let accepted = self.accepted;
         write!(f, "accepted {accepted}")?;
-        for (number, count) in (FIRST..).zip(self.plain.iter()) {
-            write!(f, ", refused {number}: {count}")?;
-        }
-        for (number, count) in CAUSES.iter().zip(self.caused.iter()) {
-            write!(f, ", by cause {number}: {count}")?;
+        for (name, count) in NAMES.iter().zip(self.faults.iter()) {
+            write!(f, ", {name}: {count}")?;
         }
         let mismatches = self.mismatches;
         write!(f, "; mismatches {mismatches}")
