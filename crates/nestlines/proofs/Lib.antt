@@ -2,6 +2,7 @@ pub mod RangeLaws
 pub mod Orders
 pub mod Places
 pub mod KindLaws
+pub mod Answered
 pub mod HeadingLines
 pub mod OpeningLines
 pub mod EntryLines

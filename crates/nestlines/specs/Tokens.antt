@@ -52,12 +52,12 @@ heading_told a b m k e =
     cond (is_bad m || is_bad k) (Err (plain BadNumber))
     (heading_if (is_word (codes "p") a && (is_word (codes "nest") b && is_end e)) (ranged (from_to 1 map_limit) m) (ranged (from_to 1 body_limit) k))
 
-abbrev pub opening_if : Bool → Option BodyKind → Option ℕ → BodyKind → ℕ → Option LineFault
-opening_if true (Some k) (Some m) kind map = cond (same_kind k kind && m == map) None (Some (plain BadBody))
-opening_if _ _ _ kind map = Some (plain BadBody)
+abbrev pub opening_if : Bool → Option BodyKind → Option ℕ → BodyKind → ℕ → Result Unit LineFault
+opening_if true (Some k) (Some m) kind map = cond (same_kind k kind && m == map) (Ok tt) (Err (plain BadBody))
+opening_if _ _ _ kind map = Err (plain BadBody)
 
--- why the first four tokens do not open the body of that kind under that map
-abbrev pub opening_fault : Seen → Seen → Seen → Seen → BodyKind → ℕ → Option LineFault
-opening_fault a k m e kind map =
-    cond (is_bad m) (Some (plain BadNumber))
+-- whether the first four tokens open the body of that kind under that map
+abbrev pub opening_told : Seen → Seen → Seen → Seen → BodyKind → ℕ → Result Unit LineFault
+opening_told a k m e kind map =
+    cond (is_bad m) (Err (plain BadNumber))
     (opening_if (is_word (codes "b") a && is_end e) (kind_seen k) (ranged (from_to 1 map_limit) m) kind map)
