@@ -2,14 +2,13 @@
 use Rattle.std.specs.Prelude.{ℕ, Bool, true, false, cond, ◌&&◌, ◌||◌, List, Ok, Err, Some, None, codes, Option, Result, ◌==◌}
 use Rattle.std.specs.Str.{bytes_eq}
 use Rattle.refusals.specs.declared.Refusal.TheVariants.{BadNumber, BadHeading, BadBody}
-use Rattle.refusals.specs.declared.Fault.{Fault}
 use Rattle.lexer.specs.Scans.{Seen, word, numeral, line_end}
 use Rattle.nestformat.specs.declared.faults.LineFault.{LineFault}
 use Rattle.nestformat.specs.declared.kinds.BodyKind.{BodyKind}
 use Rattle.nestformat.specs.declared.kinds.Heading.{Heading}
 use Rattle.nestformat.specs.Limits.{Range, from_to, positive_within, map_limit, body_limit}
 use Rattle.nestformat.specs.Kinds.{kind_named, same_kind}
-use Rattle.nestformat.specs.Faults.{plain, told_at}
+use Rattle.nestformat.specs.Faults.{plain}
 use Rattle.nestformat.specs.Due.{natural}
 
 abbrev pub is_word : List ℕ → Seen → Bool
@@ -36,11 +35,6 @@ kind_seen line_end = None
 abbrev pub ranged : Range → Seen → Option ℕ
 ranged r (numeral b z) = cond (positive_within r z) (Some (natural z)) None
 ranged r _ = None
-
--- an answer on the n-th line, in the body with letter b: a fault is told with its place
-abbrev pub placed : {T : Type 0} → ℕ → ℕ → Result T LineFault → Result T Fault
-placed n b (Ok x) = Ok x
-placed n b (Err f) = Err (told_at f n b)
 
 abbrev pub heading_if : Bool → Option ℕ → Option ℕ → Result Heading LineFault
 heading_if true (Some m) (Some k) = Ok (record { map = m; bodies = k })
