@@ -19,7 +19,7 @@ use Rattle.nestlines.specs.Tokens.{is_word, is_bad, is_end, kind_seen}
 use Rattle.nestlines.specs.Entries.{entry_fits, contents_fault_told, right_or_fault, value_seen, contents_if, contents_told}
 use Rattle.nestlines.specs.LineItems.{item_or_fault}
 use Rattle.nestlines.proofs.Places.{line_step, line_stop, bad_three, bad_told, word_told, number_told, number_test, drop_two, end_told, kind_told}
-use Rattle.nestlines.proofs.Answered.{item_of}
+use Rattle.nestlines.proofs.Placed.{item_of}
 use Rattle.nestlines.proofs.KindLaws.{kind_is}
 
 abbrev wrong : Result Contents LineFault

@@ -12,7 +12,7 @@ use Rattle.nestformat.specs.Due.{heading_due, State, as_written, natural, natura
 use Rattle.nestlines.specs.Tokens.{is_word, is_bad, is_end, heading_if, heading_told}
 use Rattle.nestlines.specs.LineItems.{item_or_fault}
 use Rattle.nestlines.proofs.Places.{line_step, line_stop, bad_two, drop_two, at_next, place_is}
-use Rattle.nestlines.proofs.Answered.{item_of}
+use Rattle.nestlines.proofs.Placed.{item_of}
 
 abbrev wrong : Result Item LineFault
 wrong = Err (plain BadHeading)

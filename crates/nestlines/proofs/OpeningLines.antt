@@ -17,7 +17,7 @@ use Rattle.nestformat.proofs.KindLaws.{same_kind_is}
 use Rattle.nestlines.specs.Tokens.{is_word, is_bad, is_end, opening_if, opening_told}
 use Rattle.nestlines.specs.LineItems.{item_or_fault}
 use Rattle.nestlines.proofs.Places.{line_step, line_stop, bad_one, drop_two, at_next, place_is}
-use Rattle.nestlines.proofs.Answered.{item_of}
+use Rattle.nestlines.proofs.Placed.{item_of}
 use Rattle.nestlines.proofs.KindLaws.{kind_is}
 
 abbrev wrong : Result Item LineFault

@@ -1,7 +1,7 @@
 use Rattle.std.proofs.Common.{rules}
 use Rattle.lexer.specs.Scans.{left}
 use Rattle.nestformat.specs.Items.{body_line}
-use Rattle.nestlines.proofs.Answered.{line_read}
+use Rattle.nestlines.proofs.Placed.{line_read}
 use Rattle.nestlines.proofs.OpeningLines.{opening_judged}
 use Rattle.nestlines.proofs.openings.read_opening.Goals as goal
 
