@@ -16,7 +16,7 @@ use Rattle.nestformat.specs.declared.kinds.BodyKind.TheVariants.{Outer, Nest, Be
 use Rattle.nestformat.specs.declared.kinds.Contents.{Contents}
 use Rattle.nestformat.specs.declared.kinds.Heading.{Heading}
 use Rattle.nestformat.specs.Limits.{body_limit, within, from_to}
-use Rattle.nestformat.specs.Faults.{plain}
+use Rattle.nestformat.specs.Faults.{plain, told_at}
 use Rattle.nestformat.specs.Kinds.{letter_of, same_kind, has_map, atoms_in, in_ranges, size_range, own_range, rows_range, has_clauses}
 use Rattle.nestformat.specs.Items.{Item, heading_line, contents_line, body_line, row_line, body_items}
 use Rattle.nestformat.specs.Due.{Slot, heading_due, contents_due, body_due, map_due, row_due, end_due, State, advance, clauses_with, due, bodies_due, rows_due, or_bodies, listed, in_order, atoms_at, is_map, fits_at, says, as_written}
@@ -541,8 +541,8 @@ no_end (f ∷ l) (MapDue e) o h x s = let y : map_due e ≡ body_due f = h in cc
 no_end [] (RowDue e) o h x s = let y : row_due e ≡ end_due = h in cc
 no_end (f ∷ l) (RowDue e) o h x s = let y : row_due e ≡ body_due f = h in cc
 
-pub refused_result : {T : Type 0} (j : Result Item LineFault) (n : ℕ) (r : Result T Fault) (g : Fault) (old new : Draft) → r ≡ Err g → (f : LineFault) × (j ≡ Err f) × (g ≡ fault_at (state_of old) n f) → LineTaken j n r old new
-refused_result {T = T} j n r g old new e h = subst (λ x. LineTaken j n x old new) (sym e) (refused T j n h.0 g old new h.1 h.2)
+pub refused_result : {T : Type 0} (j : Result Item LineFault) (n b : ℕ) (r : Result T Fault) (g : Fault) (old new : Draft) → r ≡ Err g → b ≡ (state_of old).letter → (f : LineFault) × (j ≡ Err f) × (g ≡ told_at f n b) → LineTaken j n r old new
+refused_result {T = T} j n b r g old new e k h = subst (λ x. LineTaken j n x old new) (sym e) (refused T j n h.0 g old new h.1 (h.2 ∙ ap (told_at h.0 n) k))
 
 pub opened_by : (e : Contents) (n : ℕ) (y : Phase) → (has_map e.kind ≡ true → y ≡ Map e n) → (has_map e.kind ≡ false → RowsLeft e e.rows n y) → Opened e n y
 opened_by e n y a b = ⊎_elim (λ h. inl (h, a h)) (λ h. inr (h, b h)) (cases_Bool (has_map e.kind))

@@ -17,8 +17,9 @@ use Rattle.nestformat.specs.Due.{contents_due, State, as_written, in_order, toke
 use Rattle.nestformat.specs.Reading.{contents_form, contents_fault, over_atoms}
 use Rattle.nestlines.specs.Tokens.{is_word, is_bad, is_end, kind_seen}
 use Rattle.nestlines.specs.Entries.{entry_fits, contents_fault_told, right_or_fault, value_seen, contents_if, contents_told}
-use Rattle.nestlines.specs.LineItems.{item_of_entry, item_or_fault}
+use Rattle.nestlines.specs.LineItems.{item_or_fault}
 use Rattle.nestlines.proofs.Places.{line_step, line_stop, bad_three, bad_told, word_told, number_told, number_test, drop_two, end_told, kind_told}
+use Rattle.nestlines.proofs.Placed.{item_of}
 use Rattle.nestlines.proofs.KindLaws.{kind_is}
 
 abbrev wrong : Result Contents LineFault
@@ -65,13 +66,13 @@ ends true false z = refl
 ends false y z = refl
 
 -- all the tests together, as the code has them
-main : (a kb e x y z x1 y1 z1 l o v : Bool) (c : Contents) → item_of_entry (cond ((a && (kb && (x && (y && (z && e))))) && (((x1 && y1) && (z1 && l)) && o)) (Ok c) (Err (cond ((a && (kb && e)) && v) (caused BadContents CountOutOfRange) (plain BadContents)))) ≡ item_of_entry (cond (a && (kb && e)) (cond (((x && x1) && ((y && y1) && ((z && z1) && l))) && o) (Ok c) (Err (cond v (caused BadContents CountOutOfRange) (plain BadContents)))) wrong)
-main true true true x y z x1 y1 z1 l o v c = ap (λ b. item_of_entry (cond b (Ok c) (Err (cond v (caused BadContents CountOutOfRange) (plain BadContents))))) (shuffle x y z x1 y1 z1 l o)
-main true true false x y z x1 y1 z1 l o v c = ap (λ b. item_of_entry (cond (b && (((x1 && y1) && (z1 && l)) && o)) (Ok c) wrong)) (ends x y z)
+main : (a kb e x y z x1 y1 z1 l o v : Bool) (c : Contents) → item_of contents_line (cond ((a && (kb && (x && (y && (z && e))))) && (((x1 && y1) && (z1 && l)) && o)) (Ok c) (Err (cond ((a && (kb && e)) && v) (caused BadContents CountOutOfRange) (plain BadContents)))) ≡ item_of contents_line (cond (a && (kb && e)) (cond (((x && x1) && ((y && y1) && ((z && z1) && l))) && o) (Ok c) (Err (cond v (caused BadContents CountOutOfRange) (plain BadContents)))) wrong)
+main true true true x y z x1 y1 z1 l o v c = ap (λ b. item_of contents_line (cond b (Ok c) (Err (cond v (caused BadContents CountOutOfRange) (plain BadContents))))) (shuffle x y z x1 y1 z1 l o)
+main true true false x y z x1 y1 z1 l o v c = ap (λ b. item_of contents_line (cond (b && (((x1 && y1) && (z1 && l)) && o)) (Ok c) wrong)) (ends x y z)
 main true false e x y z x1 y1 z1 l o v c = refl
 main false kb e x y z x1 y1 z1 l o v c = refl
 
-item_of_cond : (b : Bool) (c : Contents) (f : LineFault) → cond b (Ok (contents_line c)) (Err f) ≡ item_of_entry (cond b (Ok c) (Err f))
+item_of_cond : (b : Bool) (c : Contents) (f : LineFault) → cond b (Ok (contents_line c)) (Err f) ≡ item_of contents_line (cond b (Ok c) (Err f))
 item_of_cond true c f = refl
 item_of_cond false c f = refl
 
@@ -98,7 +99,7 @@ module _ (s : State) (ts : List (List ℕ)) where
   entry = record { kind = k; size = natural_at 2 ts; own = natural_at 3 ts; rows = natural_at 4 ts }
 
   abbrev Past : Type 0
-  Past = cond (as_written contents_due ts && (in_ranges entry && in_order k s.contents)) (Ok (contents_line entry)) (Err (contents_fault ts)) ≡ item_of_entry (contents_if (is_word (codes "t") (first ts) && is_end (first d5)) (kind_seen (first d1)) (value_seen (first d2)) (value_seen (first d3)) (value_seen (first d4)) s.contents)
+  Past = cond (as_written contents_due ts && (in_ranges entry && in_order k s.contents)) (Ok (contents_line entry)) (Err (contents_fault ts)) ≡ item_of contents_line (contents_if (is_word (codes "t") (first ts) && is_end (first d5)) (kind_seen (first d1)) (value_seen (first d2)) (value_seen (first d3)) (value_seen (first d4)) s.contents)
 
   written : as_written contents_due ts ≡ (is_word (codes "t") (first ts) && (is_word (letter_of k ∷ []) (first d1) && (is_word (decimal entry.size) (first d2) && (is_word (decimal entry.own) (first d3) && (is_word (decimal entry.rows) (first d4) && is_end (first d5))))))
   written =
@@ -114,7 +115,7 @@ module _ (s : State) (ts : List (List ℕ)) where
   short e n =
       cond-false _ _ _ (ap (λ w. w && (in_ranges entry && in_order k s.contents)) (written ∙ ap (λ t. is_word (codes "t") (first ts) && (is_word (letter_of k ∷ []) (first d1) && (is_word (decimal entry.size) (first d2) && (is_word (decimal entry.own) (first d3) && (is_word (decimal entry.rows) t && is_end (first d5)))))) e) ∙ lacks (is_word (codes "t") (first ts)) (is_word (letter_of k ∷ []) (first d1)) (is_word (decimal entry.size) (first d2)) (is_word (decimal entry.own) (first d3)) (is_end (first d5)) (in_ranges entry && in_order k s.contents))
       ∙ ap (λ b. Err (cond ((b && (bytes_eq (token_at 0 ts) (codes "t") && is_some (kind_named (token_at 1 ts)))) && over_atoms (atoms_told k (number_at 2 ts) (number_at 3 ts))) (caused BadContents CountOutOfRange) (plain BadContents))) n
-      ∙ ap item_of_entry (sym (ap (λ t. contents_if (is_word (codes "t") (first ts) && is_end (first d5)) (kind_seen (first d1)) (value_seen (first d2)) (value_seen (first d3)) (value_seen t) s.contents) e ∙ none_last _ _ _ _ _))
+      ∙ ap (item_of contents_line) (sym (ap (λ t. contents_if (is_word (codes "t") (first ts) && is_end (first d5)) (kind_seen (first d1)) (value_seen (first d2)) (value_seen (first d3)) (value_seen t) s.contents) e ∙ none_last _ _ _ _ _))
 
 number_from : (t : List ℕ) → is_bad (told t) ≡ false → is_number t ≡ true
 number_from t h = ⊎_elim (λ y. y) (λ (no : is_number t ≡ false). absurd (both_ways _ h (bad_told t ∙ ap not no))) (cases_Bool (is_number t))
@@ -182,10 +183,10 @@ module _ (s : State) (t0 t1 t2 t3 t4 : List ℕ) (rest : List (List ℕ)) (n2 : 
       ap₂ (λ w f. cond (w && (in_ranges (entry s ts) && in_order kk s.contents)) (Ok (contents_line (entry s ts))) (Err (cond (f && over_atoms (atoms_told kk (reads t2) (reads t3))) (caused BadContents CountOutOfRange) (plain BadContents)))) (written s ts) form
       ∙ item_of_cond _ (entry s ts) _
       ∙ main a kb e xx yy zz (within (size_range kk) (natural (reads t2))) (within (own_range kk) (natural (reads t3))) (within (rows_range kk) (natural (reads t4))) (nat_le (atoms_in (entry s ts)) atom_limit) (in_order kk s.contents) (over_atoms (atoms_told kk (reads t2) (reads t3))) (entry s ts)
-      ∙ ap (λ g. item_of_entry (cond (a && (kb && e)) (cond (g && in_order kk s.contents) (Ok (entry s ts)) (Err (contents_fault_told kk (reads t2) (reads t3)))) wrong)) ranged
-      ∙ ap item_of_entry (sym (all_some a kb e kk (reads t2) (reads t3) (reads t4) s.contents))
-      ∙ ap (λ o. item_of_entry (contents_if (a && e) o (Some (reads t2)) (Some (reads t3)) (Some (reads t4)) s.contents)) (sym kind_there)
-      ∙ ap item_of_entry (three (number_told t2 n2) (number_told t3 n3) (number_told t4 n4))
+      ∙ ap (λ g. item_of contents_line (cond (a && (kb && e)) (cond (g && in_order kk s.contents) (Ok (entry s ts)) (Err (contents_fault_told kk (reads t2) (reads t3)))) wrong)) ranged
+      ∙ ap (item_of contents_line) (sym (all_some a kb e kk (reads t2) (reads t3) (reads t4) s.contents))
+      ∙ ap (λ o. item_of contents_line (contents_if (a && e) o (Some (reads t2)) (Some (reads t3)) (Some (reads t4)) s.contents)) (sym kind_there)
+      ∙ ap (item_of contents_line) (three (number_told t2 n2) (number_told t3 n3) (number_told t4 n4))
 
 past : (s : State) (ts : List (List ℕ)) → is_bad (first (drop 1 (drop 1 ts))) ≡ false → is_bad (first (drop 1 (drop 1 (drop 1 ts)))) ≡ false → is_bad (first (drop 1 (drop 1 (drop 1 (drop 1 ts))))) ≡ false → Past s ts
 past s [] a b c = short s [] refl refl
@@ -195,15 +196,15 @@ past s (t0 ∷ t1 ∷ t2 ∷ []) a b c = short s (t0 ∷ t1 ∷ t2 ∷ []) refl 
 past s (t0 ∷ t1 ∷ t2 ∷ t3 ∷ []) a b c = short s (t0 ∷ t1 ∷ t2 ∷ t3 ∷ []) refl refl
 past s (t0 ∷ t1 ∷ t2 ∷ t3 ∷ t4 ∷ rest) a b c = full s t0 t1 t2 t3 t4 rest (number_from t2 a) (number_from t3 b) (number_from t4 c)
 
-pub entry_judged : (s : State) (ts : List (List ℕ)) → item_or_fault contents_due s ts ≡ item_of_entry (contents_told (first ts) (first (drop 1 ts)) (first (drop 1 (drop 1 ts))) (first (drop 1 (drop 1 (drop 1 ts)))) (first (drop 1 (drop 1 (drop 1 (drop 1 ts))))) (first (drop 1 (drop 1 (drop 1 (drop 1 (drop 1 ts)))))) s.contents)
+pub entry_judged : (s : State) (ts : List (List ℕ)) → item_or_fault contents_due s ts ≡ item_of contents_line (contents_told (first ts) (first (drop 1 ts)) (first (drop 1 (drop 1 ts))) (first (drop 1 (drop 1 (drop 1 ts)))) (first (drop 1 (drop 1 (drop 1 (drop 1 ts))))) (first (drop 1 (drop 1 (drop 1 (drop 1 (drop 1 ts)))))) s.contents)
 entry_judged s ts =
     let d = drop 1 (drop 1 ts) in
     let bad : not (all_numbers (take 3 (drop 2 ts))) ≡ (is_bad (first d) || (is_bad (first (drop 1 d)) || is_bad (first (drop 1 (drop 1 d))))) = ap (λ l. not (all_numbers (take 3 l))) (drop_two ts) ∙ bad_three d in
     ⊎_elim
     (λ (h : (is_bad (first d) || (is_bad (first (drop 1 d)) || is_bad (first (drop 1 (drop 1 d))))) ≡ true).
-    cond-true _ _ _ (bad ∙ h) ∙ ap item_of_entry (sym (cond-true _ _ _ h)))
+    cond-true _ _ _ (bad ∙ h) ∙ ap (item_of contents_line) (sym (cond-true _ _ _ h)))
     (λ (h : (is_bad (first d) || (is_bad (first (drop 1 d)) || is_bad (first (drop 1 (drop 1 d))))) ≡ false).
     let p = or_parts _ _ h in
     let q = or_parts _ _ p.1 in
-    cond-false _ _ _ (bad ∙ h) ∙ past s ts p.0 q.0 q.1 ∙ ap item_of_entry (sym (cond-false _ _ _ h)))
+    cond-false _ _ _ (bad ∙ h) ∙ past s ts p.0 q.0 q.1 ∙ ap (item_of contents_line) (sym (cond-false _ _ _ h)))
     (cases_Bool (is_bad (first d) || (is_bad (first (drop 1 d)) || is_bad (first (drop 1 (drop 1 d))))))

@@ -10,8 +10,9 @@ use Rattle.nestformat.specs.Faults.{plain}
 use Rattle.nestformat.specs.Items.{Item, heading_line}
 use Rattle.nestformat.specs.Due.{heading_due, State, as_written, natural, natural_at}
 use Rattle.nestlines.specs.Tokens.{is_word, is_bad, is_end, heading_if, heading_told}
-use Rattle.nestlines.specs.LineItems.{item_of_heading, item_or_fault}
+use Rattle.nestlines.specs.LineItems.{item_or_fault}
 use Rattle.nestlines.proofs.Places.{line_step, line_stop, bad_two, drop_two, at_next, place_is}
+use Rattle.nestlines.proofs.Placed.{item_of}
 
 abbrev wrong : Result Item LineFault
 wrong = Err (plain BadHeading)
@@ -20,7 +21,7 @@ abbrev heading_item : ℕ → ℕ → Item
 heading_item m k = heading_line (record { map = m; bodies = k })
 
 -- the tests of the four tokens and the end, as the code has them
-main : (a b x y e f g : Bool) (m k : ℕ) → cond ((a && (b && (x && (y && e)))) && (f && g)) (Ok (heading_item m k)) wrong ≡ item_of_heading (heading_if (a && (b && e)) (cond (x && f) (Some m) None) (cond (y && g) (Some k) None))
+main : (a b x y e f g : Bool) (m k : ℕ) → cond ((a && (b && (x && (y && e)))) && (f && g)) (Ok (heading_item m k)) wrong ≡ item_of heading_line (heading_if (a && (b && e)) (cond (x && f) (Some m) None) (cond (y && g) (Some k) None))
 main true true true true true true true m k = refl
 main true true true true true true false m k = refl
 main true true true true true false g m k = refl
@@ -66,17 +67,17 @@ module _ (s : State) (ts : List (List ℕ)) where
   k_is : k ≡ natural_at 0 d3
   k_is = ap (λ t. natural (reads t)) (at_next 2 ts ∙ at_next 1 d1 ∙ at_next 0 d2)
 
-  pub heading_judged : item_or_fault heading_due s ts ≡ item_of_heading (heading_told (first ts) (first d1) (first d2) (first d3) (first d4))
+  pub heading_judged : item_or_fault heading_due s ts ≡ item_of heading_line (heading_told (first ts) (first d1) (first d2) (first d3) (first d4))
   heading_judged =
       let bad : not (all_numbers (take 2 (drop 2 ts))) ≡ (is_bad (first d2) || is_bad (first d3)) = ap (λ l. not (all_numbers (take 2 l))) (drop_two ts) ∙ bad_two d2 in
       ⊎_elim
       (λ (h : (is_bad (first d2) || is_bad (first d3)) ≡ true).
-      cond-true _ _ _ (bad ∙ h) ∙ ap item_of_heading (sym (cond-true _ _ _ h)))
+      cond-true _ _ _ (bad ∙ h) ∙ ap (item_of heading_line) (sym (cond-true _ _ _ h)))
       (λ (h : (is_bad (first d2) || is_bad (first d3)) ≡ false).
       let p = or_parts _ _ h in
       cond-false _ _ _ (bad ∙ h)
       ∙ ap (λ w. cond (w && (within (from_to 1 map_limit) m && within (from_to 1 body_limit) k)) (Ok (heading_item m k)) wrong) written
       ∙ main (is_word (codes "p") (first ts)) (is_word (codes "nest") (first d1)) (is_word (decimal m) (first d2)) (is_word (decimal k) (first d3)) (is_end (first d4)) (within (from_to 1 map_limit) m) (within (from_to 1 body_limit) k) m k
-      ∙ ap₂ (λ x y. item_of_heading (heading_if (is_word (codes "p") (first ts) && (is_word (codes "nest") (first d1) && is_end (first d4))) x y)) (sym (place_is (from_to 1 map_limit) d2 m m_is p.0)) (sym (place_is (from_to 1 body_limit) d3 k k_is p.1))
-      ∙ ap item_of_heading (sym (cond-false _ _ _ h)))
+      ∙ ap₂ (λ x y. item_of heading_line (heading_if (is_word (codes "p") (first ts) && (is_word (codes "nest") (first d1) && is_end (first d4))) x y)) (sym (place_is (from_to 1 map_limit) d2 m m_is p.0)) (sym (place_is (from_to 1 body_limit) d3 k k_is p.1))
+      ∙ ap (item_of heading_line) (sym (cond-false _ _ _ h)))
       (cases_Bool (is_bad (first d2) || is_bad (first d3)))

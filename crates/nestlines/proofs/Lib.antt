@@ -2,9 +2,9 @@ pub mod RangeLaws
 pub mod Orders
 pub mod Places
 pub mod KindLaws
+pub mod Placed
 pub mod HeadingLines
 pub mod OpeningLines
 pub mod EntryLines
 pub mod RowLines
 pub mod Counting
-pub mod Placed

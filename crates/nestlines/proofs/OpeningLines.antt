@@ -14,15 +14,16 @@ use Rattle.nestformat.specs.Faults.{plain}
 use Rattle.nestformat.specs.Items.{Item, body_line}
 use Rattle.nestformat.specs.Due.{body_due, State, as_written, is_map, kind_at, natural, natural_at}
 use Rattle.nestformat.proofs.KindLaws.{same_kind_is}
-use Rattle.nestlines.specs.Tokens.{is_word, is_bad, is_end, opening_if, opening_fault}
-use Rattle.nestlines.specs.LineItems.{item_of_opening, item_or_fault}
+use Rattle.nestlines.specs.Tokens.{is_word, is_bad, is_end, opening_if, opening_told}
+use Rattle.nestlines.specs.LineItems.{item_or_fault}
 use Rattle.nestlines.proofs.Places.{line_step, line_stop, bad_one, drop_two, at_next, place_is}
+use Rattle.nestlines.proofs.Placed.{item_of}
 use Rattle.nestlines.proofs.KindLaws.{kind_is}
 
 abbrev wrong : Result Item LineFault
 wrong = Err (plain BadBody)
 
-found : (a kb x e f : Bool) (k j : BodyKind) (m n : ℕ) → opening_if (a && e) (cond kb (Some k) None) (cond (x && f) (Some m) None) j n ≡ cond ((a && (kb && (x && e))) && f) (cond (same_kind k j && eqb m n) None (Some (plain BadBody))) (Some (plain BadBody))
+found : (a kb x e f : Bool) (k j : BodyKind) (m n : ℕ) → opening_if (a && e) (cond kb (Some k) None) (cond (x && f) (Some m) None) j n ≡ cond ((a && (kb && (x && e))) && f) (cond (same_kind k j && eqb m n) (Ok tt) (Err (plain BadBody))) (Err (plain BadBody))
 found true true true true true k j m n = refl
 found true true true true false k j m n = refl
 found true true false true f k j m n = refl
@@ -32,7 +33,7 @@ found true true false false f k j m n = refl
 found true false x false f k j m n = refl
 found false kb x e f k j m n = refl
 
-same : (w s q f : Bool) (k j : BodyKind) (m n : ℕ) → (s ≡ true → k ≡ j) → (q ≡ true → m ≡ n) → cond (w && (s && (q && f))) (Ok (body_line k m)) wrong ≡ item_of_opening j n (cond (w && f) (cond (s && q) None (Some (plain BadBody))) (Some (plain BadBody)))
+same : (w s q f : Bool) (k j : BodyKind) (m n : ℕ) → (s ≡ true → k ≡ j) → (q ≡ true → m ≡ n) → cond (w && (s && (q && f))) (Ok (body_line k m)) wrong ≡ item_of {T = Unit {0}} (λ _. body_line j n) (cond (w && f) (cond (s && q) (Ok tt) (Err (plain BadBody))) (Err (plain BadBody)))
 same true true true true k j m n hs hq = ap₂ (λ a b. Ok (body_line a b)) (hs refl) (hq refl)
 same true true true false k j m n hs hq = refl
 same true true false true k j m n hs hq = refl
@@ -70,7 +71,7 @@ module _ (e : Contents) (s : State) (ts : List (List ℕ)) where
   k_is : kind_at 0 d1 ≡ k
   k_is = ap (λ t. unwrap_or (kind_named t) Outer) (sym (at_next 0 ts))
 
-  pub opening_judged : item_or_fault (body_due e) s ts ≡ item_of_opening e.kind s.map (opening_fault (first ts) (first d1) (first d2) (first d3) e.kind s.map)
+  pub opening_judged : item_or_fault (body_due e) s ts ≡ item_of {T = Unit {0}} (λ _. body_line e.kind s.map) (opening_told (first ts) (first d1) (first d2) (first d3) e.kind s.map)
   opening_judged =
       let bad : not (all_numbers (take 1 (drop 2 ts))) ≡ is_bad (first d2) = ap (λ l. not (all_numbers (take 1 l))) (drop_two ts) ∙ bad_one d2 in
       let a = is_word (codes "b") (first ts) in
@@ -78,13 +79,13 @@ module _ (e : Contents) (s : State) (ts : List (List ℕ)) where
       let x = is_word (decimal m) (first d2) in
       let l = is_end (first d3) in
       ⊎_elim
-      (λ (h : is_bad (first d2) ≡ true). cond-true _ _ _ (bad ∙ h) ∙ ap (item_of_opening e.kind s.map) (sym (cond-true _ _ _ h)))
+      (λ (h : is_bad (first d2) ≡ true). cond-true _ _ _ (bad ∙ h) ∙ ap (item_of {T = Unit {0}} (λ _. body_line e.kind s.map)) (sym (cond-true _ _ _ h)))
       (λ (h : is_bad (first d2) ≡ false).
       let kinds = kind_is d1 ∙ ap (λ j. cond (is_word (letter_of j ∷ []) (first d1)) (Some j) None) k_is in
       cond-false _ _ _ (bad ∙ h)
       ∙ ap (λ w. cond (w && (same_kind k e.kind && (eqb m s.map && is_map m))) (Ok (body_line k m)) wrong) written
       ∙ same (a && (kb && (x && l))) (same_kind k e.kind) (eqb m s.map) (is_map m) k e.kind m s.map (same_kind_is k e.kind) (eqb-true m s.map)
-      ∙ ap (item_of_opening e.kind s.map) (sym (found a kb x l (is_map m) k e.kind m s.map))
-      ∙ ap₂ (λ o r. item_of_opening e.kind s.map (opening_if (a && l) o r e.kind s.map)) (sym kinds) (sym (place_is (from_to 1 map_limit) d2 m m_is h))
-      ∙ ap (item_of_opening e.kind s.map) (sym (cond-false _ _ _ h)))
+      ∙ ap (item_of {T = Unit {0}} (λ _. body_line e.kind s.map)) (sym (found a kb x l (is_map m) k e.kind m s.map))
+      ∙ ap₂ (λ o r. item_of {T = Unit {0}} (λ _. body_line e.kind s.map) (opening_if (a && l) o r e.kind s.map)) (sym kinds) (sym (place_is (from_to 1 map_limit) d2 m m_is h))
+      ∙ ap (item_of {T = Unit {0}} (λ _. body_line e.kind s.map)) (sym (cond-false _ _ _ h)))
       (cases_Bool (is_bad (first d2)))

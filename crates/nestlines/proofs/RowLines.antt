@@ -24,7 +24,6 @@ use Rattle.nestformat.specs.declared.faults.LineFault.{LineFault}
 use Rattle.nestformat.specs.declared.kinds.Contents.{Contents}
 use Rattle.nestformat.specs.Items.{row_line}
 use Rattle.nestformat.specs.Due.{map_due, row_due, State, in_row, same_line, numbers_said, form, refusal_below}
-use Rattle.nestformat.specs.Reading.{fault_at}
 use Rattle.nestlines.specs.Rows.{caused}
 use Rattle.nestlines.specs.Closed.{row_number_limit, with_front, only_end, closed, fitting, RowRead, item_of_row}
 use Rattle.nestlines.specs.LineItems.{item_or_fault}
@@ -274,14 +273,14 @@ module _ (e : Contents) (s : State) (ts : List (List ℕ)) (h : all_numbers ts �
   row_open c = cond-false _ _ _ (ap not h) ∙ unsaid _ _ (form (row_due e) (numbers_said ts)) (refusal_below (row_due e) s (numbers_said ts)) (numbers_said ts) (is_open ts h c)
 
 -- a row that could not be read
-pub map_unread : (e : Contents) (s : State) (n b : ℕ) (ts : List (List ℕ)) (zs : List ℤ) (g : Fault) → length ts ≤ row_number_limit → b ≡ s.letter → RowRead {T = Unit {0}} ts zs n b (Err g) → (f : LineFault) × (item_or_fault (map_due e) s ts ≡ Err f) × (g ≡ fault_at s n f)
-map_unread e s n b ts zs g f k h = ⊎_elim
-    (λ (w : (all_numbers ts ≡ false) × (g ≡ told_at (plain BadNumber) n b)). (plain BadNumber, cond-true _ _ _ (ap not w.0), w.1 ∙ ap (told_at (plain BadNumber) n) k))
-    (λ (w : (all_numbers ts ≡ true) × (fitting (closed ts) ≡ None) × (g ≡ told_at (plain RowRefused) n b)). (plain RowRefused, map_open e s ts w.0 (sym (closed_fits ts f) ∙ w.1), w.2 ∙ ap (told_at (plain RowRefused) n) k))
+pub map_unread : (e : Contents) (s : State) (n b : ℕ) (ts : List (List ℕ)) (zs : List ℤ) (g : Fault) → length ts ≤ row_number_limit → RowRead {T = Unit {0}} ts zs n b (Err g) → (f : LineFault) × (item_or_fault (map_due e) s ts ≡ Err f) × (g ≡ told_at f n b)
+map_unread e s n b ts zs g f h = ⊎_elim
+    (λ (w : (all_numbers ts ≡ false) × (g ≡ told_at (plain BadNumber) n b)). (plain BadNumber, cond-true _ _ _ (ap not w.0), w.1))
+    (λ (w : (all_numbers ts ≡ true) × (fitting (closed ts) ≡ None) × (g ≡ told_at (plain RowRefused) n b)). (plain RowRefused, map_open e s ts w.0 (sym (closed_fits ts f) ∙ w.1), w.2))
     h.1
 
-pub row_unread : (e : Contents) (s : State) (n b : ℕ) (ts : List (List ℕ)) (zs : List ℤ) (g : Fault) → length ts ≤ row_number_limit → b ≡ s.letter → RowRead {T = Unit {0}} ts zs n b (Err g) → (f : LineFault) × (item_or_fault (row_due e) s ts ≡ Err f) × (g ≡ fault_at s n f)
-row_unread e s n b ts zs g f k h = ⊎_elim
-    (λ (w : (all_numbers ts ≡ false) × (g ≡ told_at (plain BadNumber) n b)). (plain BadNumber, cond-true _ _ _ (ap not w.0), w.1 ∙ ap (told_at (plain BadNumber) n) k))
-    (λ (w : (all_numbers ts ≡ true) × (fitting (closed ts) ≡ None) × (g ≡ told_at (plain RowRefused) n b)). (plain RowRefused, row_open e s ts w.0 (sym (closed_fits ts f) ∙ w.1), w.2 ∙ ap (told_at (plain RowRefused) n) k))
+pub row_unread : (e : Contents) (s : State) (n b : ℕ) (ts : List (List ℕ)) (zs : List ℤ) (g : Fault) → length ts ≤ row_number_limit → RowRead {T = Unit {0}} ts zs n b (Err g) → (f : LineFault) × (item_or_fault (row_due e) s ts ≡ Err f) × (g ≡ told_at f n b)
+row_unread e s n b ts zs g f h = ⊎_elim
+    (λ (w : (all_numbers ts ≡ false) × (g ≡ told_at (plain BadNumber) n b)). (plain BadNumber, cond-true _ _ _ (ap not w.0), w.1))
+    (λ (w : (all_numbers ts ≡ true) × (fitting (closed ts) ≡ None) × (g ≡ told_at (plain RowRefused) n b)). (plain RowRefused, row_open e s ts w.0 (sym (closed_fits ts f) ∙ w.1), w.2))
     h.1

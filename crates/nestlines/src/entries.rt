@@ -1,9 +1,10 @@
 // A line of the contents.
-ghost use Rattle.std.specs.Prelude.{◌≡◌, drop};
-ghost use Rattle.lexer.specs.Scans.{seen, first, left, line_number, SameLine};
-ghost use Rattle.nestformat.specs.Due.{listed, in_order};
-ghost use Rattle.nestlines.specs.Tokens.{placed};
+ghost use Rattle.std.specs.Prelude.{◌≡◌};
+ghost use Rattle.lexer.specs.Scans.{seen, left, line_number, SameLine};
+ghost use Rattle.nestformat.specs.Items.{contents_line};
+ghost use Rattle.nestformat.specs.Due.{State, contents_due, listed, in_order};
 ghost use Rattle.nestlines.specs.Entries.{contents_fault_told, contents_told, right_or_fault};
+ghost use Rattle.nestlines.specs.LineItems.{item_or_fault, LineRead};
 
 use crate::ranges::{entry_within, has_too_many_atoms};
 use crate::tokens::{ends_line, is_no_number, kind_of, word_is};
@@ -109,7 +110,7 @@ pub fn read_entry(
     body: char,
     before: &[Contents],
 ) -> Result<Contents, Fault>
-    ensures told { result ≡ placed (line_number reader.old) body (contents_told (first (left reader.old)) (first (drop 1 (left reader.old))) (first (drop 1 (drop 1 (left reader.old)))) (first (drop 1 (drop 1 (drop 1 (left reader.old))))) (first (drop 1 (drop 1 (drop 1 (drop 1 (left reader.old)))))) (first (drop 1 (drop 1 (drop 1 (drop 1 (drop 1 (left reader.old))))))) before.now) }
+    ensures told { (s : State) → s.contents ≡ before.now → LineRead contents_line (item_or_fault contents_due s (left reader.old)) (line_number reader.old) body result }
     ensures same { SameLine reader.old reader.new }
 {
     let line = reader.line();

@@ -1,7 +1,10 @@
 // The heading.
-ghost use Rattle.std.specs.Prelude.{◌≡◌, drop};
-ghost use Rattle.lexer.specs.Scans.{seen, first, left, line_number, SameLine};
-ghost use Rattle.nestlines.specs.Tokens.{heading_told, placed};
+ghost use Rattle.std.specs.Prelude.{◌≡◌};
+ghost use Rattle.lexer.specs.Scans.{seen, left, line_number, SameLine};
+ghost use Rattle.nestformat.specs.Items.{heading_line};
+ghost use Rattle.nestformat.specs.Due.{State, heading_due};
+ghost use Rattle.nestlines.specs.Tokens.{heading_told};
+ghost use Rattle.nestlines.specs.LineItems.{item_or_fault, LineRead};
 
 use crate::tokens::{ends_line, is_no_number, number_within, word_is};
 use lexer::reader::{Reader, Token};
@@ -40,7 +43,7 @@ fn heading_of(
 
 // The heading that the line has.
 pub fn read_heading(reader: &mut Reader<'_>, body: char) -> Result<Heading, Fault>
-    ensures told { result ≡ placed (line_number reader.old) body (heading_told (first (left reader.old)) (first (drop 1 (left reader.old))) (first (drop 1 (drop 1 (left reader.old)))) (first (drop 1 (drop 1 (drop 1 (left reader.old))))) (first (drop 1 (drop 1 (drop 1 (drop 1 (left reader.old))))))) }
+    ensures told { (s : State) → LineRead heading_line (item_or_fault heading_due s (left reader.old)) (line_number reader.old) body result }
     ensures same { SameLine reader.old reader.new }
 {
     let line = reader.line();

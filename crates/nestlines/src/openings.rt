@@ -1,10 +1,11 @@
 // The line that opens a body.
-ghost use Rattle.std.specs.Prelude.{◌≡◌, drop};
-ghost use Rattle.std.specs.Option.{option_map};
-ghost use Rattle.std.specs.Result.{result_err};
-ghost use Rattle.lexer.specs.Scans.{seen, first, left, line_number, SameLine};
-ghost use Rattle.nestformat.specs.Faults.{told_at};
-ghost use Rattle.nestlines.specs.Tokens.{opening_fault};
+ghost use Rattle.std.specs.Prelude.{◌≡◌};
+ghost use Rattle.lexer.specs.Scans.{seen, left, line_number, SameLine};
+ghost use Rattle.nestformat.specs.declared.kinds.Contents.{Contents};
+ghost use Rattle.nestformat.specs.Items.{body_line};
+ghost use Rattle.nestformat.specs.Due.{State, body_due};
+ghost use Rattle.nestlines.specs.Tokens.{opening_told};
+ghost use Rattle.nestlines.specs.LineItems.{item_or_fault, LineRead};
 
 use crate::tokens::{ends_line, is_no_number, kind_of, number_within, word_is};
 use lexer::reader::{Reader, Token};
@@ -22,7 +23,7 @@ fn check_opening(
     kind: BodyKind,
     map: u16,
 ) -> Result<(), LineFault>
-    ensures { result_err result ≡ opening_fault (seen first.entry) (seen second.entry) (seen third.entry) (seen last.entry) kind map }
+    ensures { result ≡ opening_told (seen first.entry) (seen second.entry) (seen third.entry) (seen last.entry) kind map }
 {
     if is_no_number(third) {
         return Err(LineFault::plain(Refusal::BadNumber));
@@ -50,7 +51,7 @@ pub fn read_opening(
     kind: BodyKind,
     map: u16,
 ) -> Result<(), Fault>
-    ensures told { result_err result ≡ option_map (λ f. told_at f (line_number reader.old) body) (opening_fault (first (left reader.old)) (first (drop 1 (left reader.old))) (first (drop 1 (drop 1 (left reader.old)))) (first (drop 1 (drop 1 (drop 1 (left reader.old))))) kind map) }
+    ensures told { (s : State) (e : Contents) → e.kind ≡ kind → s.map ≡ map → LineRead (λ _. body_line e.kind s.map) (item_or_fault (body_due e) s (left reader.old)) (line_number reader.old) body result }
     ensures same { SameLine reader.old reader.new }
 {
     let line = reader.line();

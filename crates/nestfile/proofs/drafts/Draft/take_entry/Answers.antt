@@ -1,6 +1,6 @@
-use Rattle.std.proofs.Common.{◌≡◌, Ok, Err, refl, subst, rules}
+use Rattle.std.proofs.Common.{refl, sym, subst, rules}
 use Rattle.tables.specs.Items.{entries}
-use Rattle.lexer.specs.Scans.{left, line_number}
+use Rattle.lexer.specs.Scans.{left}
 use Rattle.nestformat.specs.Items.{contents_line}
 use Rattle.nestformat.specs.Due.{contents_due}
 use Rattle.nestfile.specs.declared.Parts.{Parts}
@@ -8,17 +8,10 @@ use Rattle.nestfile.specs.declared.drafts.Draft.{Draft}
 use Rattle.nestfile.specs.declared.drafts.Phase.TheVariants.{Contents}
 use Rattle.nestfile.specs.Drafts.{state_of, PhaseSound, Bare, Sized}
 use Rattle.nestfile.proofs.Steps.{item_fits, entry_pushed, entry_step, same_rows, taken, refused_result, same_atoms}
-use Rattle.nestlines.specs.LineItems.{item_or_fault}
-use Rattle.nestlines.proofs.Placed.{entry_read, entry_faulty}
 use Rattle.nestfile.proofs.drafts.Draft.take_entry.Goals as goal
 
 pub returns-in_err-entry-clause-taken : goal.returns-in_err-entry-clause-taken
-returns-in_err-entry-clause-taken c =
-    let old = c.args.self.now in
-    let n = line_number c.args.reader.now in
-    let g = c.in_err-entry.field-0.0 in
-    let e : c.from_residual.result ≡ Err g = search rules in
-    refused_result (item_or_fault contents_due (state_of old) (left c.args.reader.now)) n c.from_residual.result g old old e (entry_faulty (state_of old) n c.letter.result (left c.args.reader.now) c.as_slice.result.now g c.as_slice.ensures c.letter.ensures c.in_err-entry.ensures.told)
+returns-in_err-entry-clause-taken c = refused_result _ _ _ _ c.in_err-entry.field-0.0 _ _ (search rules) c.letter.ensures (c.in_err-entry.ensures.told (state_of c.args.self.now) (sym c.as_slice.ensures))
 
 pub returns-clause-taken : goal.returns-clause-taken
 returns-clause-taken c =
@@ -27,9 +20,9 @@ returns-clause-taken c =
     let e = c.in_ok-entry.entry in
     let q : Parts = record { map = p.map; contents = c.push.new.self; outer = p.outer; nest = p.nest; below = p.below; arcs = p.arcs; milliamperes = p.milliamperes; lines = p.lines } in
     let new : Draft = record { parts = q; phase = c.after_entry-self.result; opened = old.opened; numbers = old.numbers } in
-    let is : item_or_fault contents_due (state_of old) (left c.args.reader.now) ≡ Ok (contents_line e) = entry_read (state_of old) (line_number c.args.reader.now) c.letter.result (left c.args.reader.now) c.as_slice.result.now e c.as_slice.ensures c.in_ok-entry.ensures.told in
+    let is = c.in_ok-entry.ensures.told (state_of old) (sym c.as_slice.ensures) in
     let ph : PhaseSound p old.opened (Contents c.args.count) = subst (PhaseSound p old.opened) c.requires.phase c.requires.sound.phase in
-    taken (item_or_fault contents_due (state_of old) (left c.args.reader.now)) (line_number c.args.reader.now) (contents_line e) old new (Contents c.args.count) tt is c.requires.phase
+    taken _ _ (contents_line e) old new (Contents c.args.count) tt is c.requires.phase
     (entry_step p q old.opened c.args.count c.after_entry-self.result e c.requires.sound.good ph (item_fits contents_due (state_of old) (left c.args.reader.now) (contents_line e) is) refl
     (entry_pushed c.push.result (entries p.contents) (entries c.push.new.self) e c.args.count c.push.ensures.value c.push.ensures.items ph.0 ph.1)
     c.after_entry-self.ensures

@@ -1,5 +1,5 @@
-use Rattle.std.proofs.Common.{◌≡◌, Ok, Err, refl, subst, rules}
-use Rattle.lexer.specs.Scans.{left, line_number}
+use Rattle.std.proofs.Common.{refl, subst, rules}
+use Rattle.lexer.specs.Scans.{left}
 use Rattle.nestformat.specs.Items.{heading_line}
 use Rattle.nestformat.specs.Due.{heading_due}
 use Rattle.nestfile.specs.declared.Parts.{Parts}
@@ -7,17 +7,10 @@ use Rattle.nestfile.specs.declared.drafts.Draft.{Draft}
 use Rattle.nestfile.specs.declared.drafts.Phase.TheVariants.{Heading, Contents}
 use Rattle.nestfile.specs.Drafts.{state_of, PhaseSound, Bare, Sized}
 use Rattle.nestfile.proofs.Steps.{item_fits, heading_step, same_rows, taken, refused_result, same_atoms}
-use Rattle.nestlines.specs.LineItems.{item_or_fault}
-use Rattle.nestlines.proofs.Placed.{heading_read, heading_faulty}
 use Rattle.nestfile.proofs.drafts.Draft.take_heading.Goals as goal
 
 pub returns-in_err-heading-clause-taken : goal.returns-in_err-heading-clause-taken
-returns-in_err-heading-clause-taken c =
-    let old = c.args.self.now in
-    let n = line_number c.args.reader.now in
-    let g = c.in_err-heading.field-0.0 in
-    let e : c.from_residual.result ≡ Err g = search rules in
-    refused_result (item_or_fault heading_due (state_of old) (left c.args.reader.now)) n c.from_residual.result g old old e (heading_faulty (state_of old) n c.letter.result (left c.args.reader.now) g c.letter.ensures c.in_err-heading.ensures.told)
+returns-in_err-heading-clause-taken c = refused_result _ _ _ _ c.in_err-heading.field-0.0 _ _ (search rules) c.letter.ensures (c.in_err-heading.ensures.told (state_of c.args.self.now))
 
 pub returns-clause-taken : goal.returns-clause-taken
 returns-clause-taken c =
@@ -25,7 +18,7 @@ returns-clause-taken c =
     let h = c.in_ok-heading.heading in
     let q : Parts = record { map = h.map; contents = old.parts.contents; outer = old.parts.outer; nest = old.parts.nest; below = old.parts.below; arcs = old.parts.arcs; milliamperes = old.parts.milliamperes; lines = old.parts.lines } in
     let new : Draft = record { parts = q; phase = Contents h.bodies; opened = old.opened; numbers = old.numbers } in
-    let is : item_or_fault heading_due (state_of old) (left c.args.reader.now) ≡ Ok (heading_line h) = heading_read (state_of old) (line_number c.args.reader.now) c.letter.result (left c.args.reader.now) h c.in_ok-heading.ensures.told in
+    let is = c.in_ok-heading.ensures.told (state_of old) in
     let ph : PhaseSound old.parts old.opened Heading = subst (PhaseSound old.parts old.opened) c.requires.phase c.requires.sound.phase in
-    taken (item_or_fault heading_due (state_of old) (left c.args.reader.now)) (line_number c.args.reader.now) (heading_line h) old new Heading tt is c.requires.phase
+    taken _ _ (heading_line h) old new Heading tt is c.requires.phase
     (heading_step old.parts q old.opened h c.requires.sound.good ph (item_fits heading_due (state_of old) (left c.args.reader.now) (heading_line h) is) refl refl (λ k. same_rows old.parts q refl refl refl refl refl refl k) (λ k. same_atoms old.parts q refl refl refl k) (subst (Bare old.parts) c.requires.phase c.requires.sound.bare) (subst (Sized old.parts) c.requires.phase c.requires.sound.sized))

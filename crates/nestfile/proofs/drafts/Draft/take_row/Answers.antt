@@ -1,4 +1,4 @@
-use Rattle.std.proofs.Common.{◌≡◌, Ok, Err, Some, None, ◌∷◌, [], ◌++◌, refl, sym, ap, subst, ◌∙◌, rules}
+use Rattle.std.proofs.Common.{◌≡◌, Ok, Some, None, ◌∷◌, [], ◌++◌, refl, sym, ap, subst, ◌∙◌, rules}
 use Rattle.tables.specs.Items.{entries}
 use Rattle.lexer.specs.Scans.{left, line_number}
 use Rattle.nestformat.specs.declared.kinds.BodyKind.TheVariants.{Outer}
@@ -16,12 +16,7 @@ use Rattle.nestfile.proofs.Steps.{row_step, atoms_few, taken, refused, refused_r
 use Rattle.nestfile.proofs.drafts.Draft.take_row.Goals as goal
 
 pub returns-in_err-read_row-clause-taken : goal.returns-in_err-read_row-clause-taken
-returns-in_err-read_row-clause-taken c =
-    let old = c.args.self.now in
-    let r = c.args.reader.now in
-    let g = c.in_err-read_row.field-0.0 in
-    let e : c.from_residual.result ≡ Err g = search rules in
-    refused_result (item_or_fault (row_due c.args.entry) (state_of old) (left r)) (line_number r) c.from_residual.result g old _ e (row_unread c.args.entry (state_of old) (line_number r) c.letter-body.result (left r) (entries c.read_row.new.numbers) g c.requires.few c.letter-body.ensures c.in_err-read_row.ensures.read)
+returns-in_err-read_row-clause-taken c = refused_result _ _ _ _ c.in_err-read_row.field-0.0 _ _ (search rules) c.letter-body.ensures (row_unread c.args.entry (state_of c.args.self.now) _ _ (left c.args.reader.now) (entries c.read_row.new.numbers) _ c.requires.few c.in_err-read_row.ensures.read)
 
 pub add_row-requires-clause-near : goal.add_row-requires-clause-near
 add_row-requires-clause-near c = atoms_few Outer (entries c.args.self.now.parts.contents) c.requires.sound.good
