@@ -76,7 +76,20 @@ pub(crate) fn map(
     count: u8,
     host: u8,
 ) -> Result<Vec<AtomNumber>, AllocError> {
-    (0..count).map(|_| number(random, host)).collect(heap)
+    let mut map = Vec::new(heap);
+    for _ in 0..count {
+        map.push(number(random, host))?;
+    }
+    Ok(map)
+}
+
+fn literal(random: &mut Random, atoms: u8) -> Literal {
+    let atom = i16::from(number(random, atoms));
+    if random.one_in(2) {
+        atom.wrapping_neg()
+    } else {
+        atom
+    }
 }
 
 // At most three literals over so many atoms.
@@ -90,15 +103,11 @@ pub(crate) fn clause(
     } else {
         number(random, 3)
     };
-    let drawn = (0..count).map(|_| {
-        let atom = i16::from(number(random, atoms));
-        if random.one_in(2) {
-            atom.wrapping_neg()
-        } else {
-            atom
-        }
-    });
-    drawn.collect(heap)
+    let mut clause = Vec::new(heap);
+    for _ in 0..count {
+        clause.push(literal(random, atoms))?;
+    }
+    Ok(clause)
 }
 
 // A value mostly, at times unknown, by 2 or by a byte that no value has.
@@ -111,5 +120,9 @@ fn byte(random: &mut Random) -> u8 {
 }
 
 pub(crate) fn bytes(heap: Global, random: &mut Random, count: u8) -> Result<Vec<u8>, AllocError> {
-    (0..count).map(|_| byte(random)).collect(heap)
+    let mut bytes = Vec::new(heap);
+    for _ in 0..count {
+        bytes.push(byte(random))?;
+    }
+    Ok(bytes)
 }
