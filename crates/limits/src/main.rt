@@ -26,9 +26,13 @@ fn tell<D: Display + Drop>(
     }
 }
 
+// The number of atoms is the book's own, or the one that was refused.
 fn tell_fresh(rt: &HostRuntime, atoms: usize) -> io::Result<()> {
-    let answer = ClauseBook::fresh(atoms).map(|_| ());
-    tell(rt, format_args!("book over {atoms} atoms"), answer)
+    let (told, answer) = match ClauseBook::fresh(atoms) {
+        Ok(book) => (book.atoms(), Ok(())),
+        Err(refusal) => (atoms, Err(refusal)),
+    };
+    tell(rt, format_args!("book over {told} atoms"), answer)
 }
 
 // What is done with a book; the text tells it.
@@ -116,7 +120,7 @@ fn play_step(rt: &HostRuntime, book: &mut ClauseBook, step: Step) -> io::Result<
 }
 
 // The steps on a fresh book.
-fn play(rt: &HostRuntime, atoms: usize, steps: &[Step]) -> anyhow::Result<()> {
+fn play(rt: &HostRuntime, atoms: usize, steps: &[Step]) -> io::Result<()> {
     let mut book = ClauseBook::fresh(atoms)?;
     for step in steps {
         play_step(rt, &mut book, *step)?;
@@ -132,7 +136,7 @@ fn open_times(session: &mut Session<Mute>, times: usize) -> Result<(), Refusal> 
     Ok(())
 }
 
-fn scopes(rt: &HostRuntime) -> anyhow::Result<()> {
+fn scopes(rt: &HostRuntime) -> io::Result<()> {
     let mut session = Session::new(Mute);
     session.size(1)?;
     tell(rt, "16 scopes", open_times(&mut session, 16))?;
@@ -146,7 +150,7 @@ fn read_text(text: &[u8]) -> Result<(), Refusal> {
 }
 
 // Reads a small file, filled up to so many bytes by blank lines.
-fn text(rt: &HostRuntime, bytes: usize) -> anyhow::Result<()> {
+fn text(rt: &HostRuntime, bytes: usize) -> io::Result<()> {
     let mut text = Vec::new(rt.alloc());
     text.extend_from_slice(SMALL)?;
     text.resize(bytes, b'\n')?;
@@ -155,7 +159,7 @@ fn text(rt: &HostRuntime, bytes: usize) -> anyhow::Result<()> {
     Ok(())
 }
 
-fn books(rt: &HostRuntime) -> anyhow::Result<()> {
+fn books(rt: &HostRuntime) -> io::Result<()> {
     for atoms in [0, 200, 201] {
         tell_fresh(rt, atoms)?;
     }
@@ -166,7 +170,7 @@ fn books(rt: &HostRuntime) -> anyhow::Result<()> {
     play(rt, 2, CUT_BACK)
 }
 
-fn main(rt: HostRuntime) -> anyhow::Result<()> {
+fn main(rt: HostRuntime) -> io::Result<()> {
     books(&rt)?;
     scopes(&rt)?;
     for bytes in [60_000, 60_001] {

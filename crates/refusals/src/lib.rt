@@ -2,10 +2,12 @@
 #![tactic(auto)]
 
 ghost use Rattle.std.specs.Prelude.{◌≡◌, Some};
+ghost use Rattle.std.specs.IoError.{error_kind};
+ghost use Rattle.std.specs.declared.io.ErrorKind.TheVariants.{Other};
 ghost use Rattle.refusals.specs.Refusals.{number_of, text_of, outside};
 
 use std::error::Error;
-use std::fmt;
+use std::{fmt, io};
 
 // In the order of the list, counted from 1: where several apply, the earliest is the answer.
 #[derive(Clone, Copy, PartialEq, Eq, Debug)]
@@ -70,6 +72,15 @@ impl fmt::Display for Refusal {
 }
 
 impl Error for Refusal {}
+
+// So that a program whose errors are those of its output passes a refusal on by `?`.
+impl From<Refusal> for io::Error {
+    ghost from_gives = { λ _ error. error_kind error ≡ Other };
+
+    fn from(refusal: Refusal) -> io::Error {
+        io::Error::other(refusal.text())
+    }
+}
 
 // A refusal with what is known of its place: the refusal below that caused it, the line of the text and the letter of the body.
 #[derive(Clone, Copy, PartialEq, Eq, Debug)]

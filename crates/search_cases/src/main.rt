@@ -44,7 +44,7 @@ const PIGEONS: [[Literal; 2]; 9] = [
     [-4, -6],
 ];
 
-fn pigeons(rt: &HostRuntime) -> anyhow::Result<()> {
+fn pigeons(rt: &HostRuntime) -> io::Result<()> {
     let mut book = ClauseBook::fresh(8)?;
     for clause in PIGEONS {
         book.add(&clause)?;
@@ -55,7 +55,7 @@ fn pigeons(rt: &HostRuntime) -> anyhow::Result<()> {
     Ok(())
 }
 
-fn choices(rt: &HostRuntime) -> anyhow::Result<()> {
+fn choices(rt: &HostRuntime) -> io::Result<()> {
     let mut book = ClauseBook::fresh(9)?;
     println!(rt; "no clause")?;
     show(rt, &book, &mut Mute, &mut [], 0)?;
@@ -71,7 +71,7 @@ fn choices(rt: &HostRuntime) -> anyhow::Result<()> {
     Ok(())
 }
 
-fn loops(rt: &HostRuntime) -> anyhow::Result<()> {
+fn loops(rt: &HostRuntime) -> io::Result<()> {
     let arcs = [(1, 1, 2), (2, 2, 1), (3, 2, 3)].map(|(atom, from, to)| Arc { atom, from, to });
     let mut veto = Cycle::new(&arcs[..]);
     println!(rt; "arcs 1: 1 to 2, 2: 2 to 1, 3: 2 to 3")?;
@@ -93,7 +93,7 @@ fn chain() -> Result<ClauseBook, Refusal> {
     Ok(book)
 }
 
-fn whole_chain(rt: &HostRuntime) -> anyhow::Result<()> {
+fn whole_chain(rt: &HostRuntime) -> io::Result<()> {
     let book = chain()?;
     let mut assignment = [2; ATOM_LIMIT];
     let mut ticks = [0; ATOM_LIMIT];
@@ -107,7 +107,7 @@ fn whole_chain(rt: &HostRuntime) -> anyhow::Result<()> {
     Ok(())
 }
 
-fn main(rt: HostRuntime) -> anyhow::Result<()> {
+fn main(rt: HostRuntime) -> io::Result<()> {
     choices(&rt)?;
     pigeons(&rt)?;
     loops(&rt)?;

@@ -10,8 +10,9 @@ mod telling;
 use crate::calls::ATOMS;
 use crate::stall::{describe, tell_stall};
 use crate::telling::tell;
+use std::io;
 
-fn main(rt: HostRuntime) -> anyhow::Result<()> {
+fn main(rt: HostRuntime) -> io::Result<()> {
     println!(rt; "{ATOMS} atoms: 1 raw output, 2 filter, 3 brake")?;
     println!(rt; "signals: raw output joins 1 to 2, brake 2 to 1")?;
     println!(rt; "current: at most 380 mA; raw output 300, filter 250, brake 100")?;

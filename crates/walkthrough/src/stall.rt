@@ -6,6 +6,7 @@ use refusals::Refusal;
 use runs::play::play;
 use runs::turn::{Call, Turn};
 use std::alloc::{AllocError, Global};
+use std::io;
 use vetoes::mute::Mute;
 use vetoes::veto::{Verdict, Veto};
 
@@ -25,7 +26,7 @@ pub(crate) fn tell_stall(
     rt: &HostRuntime,
     stall: &mut Nested<Mute>,
     setting: &[u8; ATOMS],
-) -> anyhow::Result<()> {
+) -> io::Result<()> {
     let mut ticks = [0; ATOMS];
     print!(rt; "{}: ", Digits(setting))?;
     match stall.examine(setting, &mut ticks)? {
