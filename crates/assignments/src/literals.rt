@@ -10,7 +10,8 @@ pub fn place_of(literal: Literal, atoms: usize) -> Option<usize>
     ensures place { result ≡ place_in atoms literal }
     ensures ranged { is_some result ≡ in_range atoms literal }
 {
-    let place = (literal.unsigned_abs() as usize).checked_sub(1)?;
+    // of 0, which names no atom, a place past all
+    let place = (literal.unsigned_abs() as usize).wrapping_sub(1);
     if place < atoms { Some(place) } else { None }
 }
 

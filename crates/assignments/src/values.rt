@@ -36,5 +36,13 @@ pub fn value_at(assignment: &[u8], atom: AtomNumber) -> Option<bool>
 pub fn is_complete(assignment: &[u8], atoms: usize) -> bool
     ensures { Decides result (Complete atoms assignment.now) }
 {
-    assignment.len() == atoms && assignment.iter().all(|byte| *byte < 2)
+    if assignment.len() != atoms {
+        return false;
+    }
+    for byte in assignment {
+        if *byte > 1 {
+            return false;
+        }
+    }
+    true
 }
