@@ -1,16 +1,16 @@
 -- Totals of rows, from the laws of a load kind. Assumes nothing but the laws that are passed.
-use Rattle.std.specs.Prelude.{◌≡◌, ℕ, zero, suc, ◌+◌, ◌-◌, ◌<◌, ◌≤◌, Bool, true, false, cond, leb, ◌⊎◌, List, [], ◌∷◌, ◌++◌, length, get_or, take, drop, nat_eq, nat_le, slice_index, slice_index_or, refl}
+use Rattle.std.specs.Prelude.{◌≡◌, ℕ, zero, suc, ◌+◌, ◌-◌, ◌<◌, ◌≤◌, Bool, true, false, cond, leb, ◌⊎◌, List, [], ◌∷◌, ◌++◌, length, get_or, take, drop, nat_eq, nat_le, slice_index, slice_index_or, slice_set, refl}
 use Rattle.std.proofs.Common.{sym, ap, subst, ◌∙◌, inl, inr, ⊎_elim, append_assoc, arith, take_all}
 use Rattle.std.proofs.lemmas.List.{take_more, take-append-drop, append-nil, get_or_default}
 use Rattle.std.proofs.lemmas.Bool.{both_ways, cases_Bool, cases_eq, cond-true, cond-false, eq-eqb, eqb-true, leb-true}
 use Rattle.assignments.specs.Assignments.{at, atom, Part}
 use Rattle.assignments.specs.Limits.{atom_limit}
 use Rattle.vetoes.specs.Counted.{highest_of, live}
-use Rattle.vetoes.specs.Marks.{marked}
+use Rattle.vetoes.specs.Marks.{Marks, marked}
 use Rattle.vetoes.specs.Meaning.{Lawful}
 use Rattle.vetoes.specs.Verdicts.{ticked}
 use Rattle.vetoes.proofs.Highest.{highest_few, highest_over, atom_near}
-use Rattle.vetoes.proofs.Marking.{atom_grows, atom_positive, ticked_atom, ticked_part, marked_there, marked_grows}
+use Rattle.vetoes.proofs.Marking.{atom_grows, atom_positive, ticked_atom, ticked_part, marks_atom, marked_is, marked_there, marked_grows}
 use Rattle.loads.specs.declared.row.Row.{Row}
 use Rattle.loads.specs.Rows.{counted_row, total, exceeds, later, load_means}
 
@@ -86,6 +86,13 @@ module _ {L : Type 0} where
         (λ (s : k ≡ i). subst (λ x. slice_index (marked p r.atom t) (x.atom - 1) ≡ 1) (sym (ap (λ j. get_or rs j d) s ∙ read_row rs i r d h read)) (marked_there p t r.atom o.true_there o.high long))
         (λ (s : k ≡ i → ⊥). marked_grows p t r.atom ((get_or rs k d).atom - 1) (so k d (omega arith) v e))
         (cases_eq k i))
+
+    -- the same, with the mark itself
+    pub marked_set : IsOn p r → Marks p t → Marked p (slice_set t (r.atom - 1) 1) rs (i + 1)
+    marked_set o m = subst (λ u. Marked p u rs (i + 1)) (marked_is p t r.atom o.true_there) (marked_one p (marked p r.atom t) o m.long refl refl)
+
+  pub marks_on : (p t : List ℕ) (r : Row L) → IsOn p r → Marks p t → Marks p (slice_set t (r.atom - 1) 1)
+  marks_on p t r o m = marks_atom p t r.atom o.high o.true_there m
 
   -- the rows after the first, as the code cuts them
   pub later_is : (rs : List (Row L)) → take (length rs - 1) (drop 1 rs) ≡ later rs
