@@ -1,5 +1,5 @@
 // A book from its start on: fresh, one clause more, and back to what it held before.
-ghost use Rattle.std.specs.Prelude.{◌≡◌, ◌≤◌, [], ◌∷◌, ◌++◌, length, take, is_ok, IfOk, if◌then◌else◌};
+ghost use Rattle.std.specs.Prelude.{◌≡◌, ◌≤◌, [], ◌∷◌, ◌++◌, length, take, None, is_ok, IfOk, if◌then◌else◌};
 ghost use Rattle.std.specs.Result.{result_err};
 ghost use Rattle.assignments.specs.Limits.{atom_limit};
 ghost use Rattle.clauses.specs.Books.{atoms_of, clauses_of};
@@ -54,11 +54,20 @@ impl ClauseBook {
         ensures atoms { atoms_of self.new ≡ atoms_of self.old }
     {
         self.accepts(clause)?;
+        self.append(clause);
+        Ok(())
+    }
+
+    // One clause more at the end, which the book accepts.
+    fn append(&mut self, clause: &[Literal])
+        requires { refusal_of_adding (atoms_of self.now) (clauses_of self.now) clause.now ≡ None }
+        ensures clauses { clauses_of self.new ≡ clauses_of self.old ++ clause.now ∷ [] }
+        ensures atoms { atoms_of self.new ≡ atoms_of self.old }
+    {
         let start = self.literals.as_slice().len();
         let len = clause.len();
         let _ = self.literals.extend(clause);
         let _ = self.stretches.push(Stretch { start, len });
-        Ok(())
     }
 
     // Whether the clause may be added, or the earliest refusal that it meets.
