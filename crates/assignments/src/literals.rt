@@ -27,6 +27,7 @@ pub fn is_true(assignment: &[u8], literal: Literal) -> bool
 }
 
 // Whether one of the clause's literals is true.
+#[tactic(auto, using(crate::proofs::ClauseLaws::stays_met))]
 pub fn is_met(assignment: &[u8], clause: &[Literal]) -> bool
     ensures value { result ≡ met assignment.now clause.now }
     ensures stays { StaysMet }

@@ -60,10 +60,10 @@ module _ (P : List ℕ → Type 0) (n : ℕ) (a : List ℤ) where
 
   module _ (before t : List ℕ) (all : (j : ℕ) → j < length a → get_or t j 0 ≡ 1) (past : (j : ℕ) → length a ≤ j → get_or t j 0 ≡ get_or before j 0) where
     -- all were ticked, and those that the reason does not name lost their tick
-    pub clashed_first : (u reason : List ℕ) → KeepsNamed a reason t u → Clashing P n a None reason → Clashed P n a u
-    clashed_first u reason keeps c = record {
+    pub clashed_first : (only : Option (List ℕ)) (u reason : List ℕ) → KeepsNamed a reason t u → Clashing P n a only reason → Clashed P n a u
+    clashed_first only u reason keeps c = record {
       bits = λ j h. still_bit (length a) t u keeps.fewer j (let e = all j h in omega arith);
-      none = clash_named None reason u c (λ j h _ named. keeps.named j h named ∙ all j h);
+      none = clash_named only reason u c (λ j h _ named. keeps.named j h named ∙ all j h);
     }
 
     -- past the assumptions the ticks are as they were before all were ticked

@@ -19,6 +19,6 @@ returns-clause-answer g c =
     let past = past_first (length a) c.fill.new.self c.args.ticks.now ones in
     let filled : c.fill-2.new.self ≡ replicate n 2 = search rules in
     let P = Allowed (clauses_of c.args.book.now) (g.V.Veto.means c.args.veto.now).speaks in
-    let clashed : Clashed P n a c.untick.new.ticks = clashed_first _ n a c.args.ticks.now t all past c.untick.new.ticks c.include.new.reason c.untick.ensures c.if-include.ensures.included in
+    let clashed : Clashed P n a c.untick.new.ticks = clashed_first _ n a c.args.ticks.now t all past _ c.untick.new.ticks c.include.new.reason c.untick.ensures c.if-include.ensures.included in
     let minimal : Clashed P n a c.untick.new.ticks → Core P n a c.untick.new.ticks c.minimize.new.ticks = core_at (ap speaks_of c.include.ensures.meaning) c.include.auto.found c.minimize.ensures.core in
     (core_before P n a c.args.ticks.now t all past c.untick.new.ticks _ c.include.new.reason c.untick.ensures (minimal clashed), subst Unknown (sym filled) (unknown_filled n))
